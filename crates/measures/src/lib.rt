@@ -16,6 +16,7 @@ pub impl Weigh for u8 as ByteWeigh {
 // To be an impl is to be lawful. A join of lists that are too heavy gives any value.
 pub trait Measure {
     type Item: Weigh + Copy;
+
     type Value: Copy;
 
     ghost means: { List Self·Item → Self·Value };

@@ -1,1 +1,9 @@
 pub mod Faults
+pub mod Lists
+pub mod Tokens
+pub mod Brackets
+pub mod Questions
+pub mod Pieces
+pub mod Marks
+pub mod Machine
+pub mod Script
