@@ -7,3 +7,5 @@ pub mod Pieces
 pub mod Marks
 pub mod Machine
 pub mod Script
+pub mod Examples
+pub mod Laws

@@ -2,3 +2,4 @@
 pub mod answers;
 pub mod calls;
 pub mod faults;
+pub mod laws;
