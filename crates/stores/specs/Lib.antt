@@ -1,0 +1,4 @@
+pub mod Stores
+pub mod Kinds
+pub mod Laws
+pub mod Joining
