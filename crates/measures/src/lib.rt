@@ -5,6 +5,13 @@ ghost use mathlib.Core.Bool.{Bool, true};
 ghost use Prim.Native.Nat.{ℕ, _≤_};
 ghost use Rattle.measures.specs.Law.{Joins, Adds, Keeps};
 
+pub mod longest_line;
+pub mod mark_totals;
+pub mod pair;
+pub mod probes;
+pub mod scan;
+pub mod totals;
+
 pub trait Weigh {
     ghost weight: { Self → ℕ };
 }

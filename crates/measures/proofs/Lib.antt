@@ -1,0 +1,5 @@
+pub mod Weights
+pub mod TotalsLaws
+pub mod MarkLaws
+pub mod LineLaws
+pub mod SideLives
