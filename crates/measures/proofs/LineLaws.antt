@@ -82,9 +82,10 @@ lines-bound (x ∷ xs) =
     let v = longestLine xs in
     let e = lines-front x xs in
     let le = lines-bound xs in
-    let more = front-bound (eqb x 0x0A) (v .«has_feed») (v .first) (v .inner) (v .last) (weights (λ _. 1) xs) (le .0) (le .1) in
-    (omega (arith, more .0, ap (λ (u : LongestLine). u .first) e, ap (λ (u : LongestLine). u .inner) e),
-     omega (arith, more .1, ap (λ (u : LongestLine). u .last) e))
+    let more = front-bound (eqb x 0x0A) (v .«has_feed») (v .first) (v .inner) (v .last) (weights (λ _. 1) xs) (le .0) (le .1) in (
+      omega (arith, more .0, ap (λ (u : LongestLine). u .first) e, ap (λ (u : LongestLine). u .inner) e),
+      omega (arith, more .1, ap (λ (u : LongestLine). u .last) e),
+    )
 
 -- where no field of the join passes the limit, it is what the code computes
 exact : (b c : Bool) (m n p m′ n′ p′ F I L middle end between : ℕ) → middle ≡ min (p + m′) 4294967295 → end ≡ min (p + p′) 4294967295 → between ≡ cond (b && c) middle 0
@@ -101,10 +102,12 @@ exact false false m n p m′ n′ p′ F I L middle end between e1 e2 e3 e4 e5 e
 pub join-lines : (a b : LongestLine) (F I L middle end between : ℕ) → middle ≡ min (a .last + b .first) 4294967295 → end ≡ min (a .last + b .last) 4294967295 → between ≡ cond (a .«has_feed» && b .«has_feed») middle 0
     → F ≡ cond (a .«has_feed») (a .first) middle → I ≡ max (max (a .inner) (b .inner)) between → L ≡ cond (b .«has_feed») (b .last) end
     → Joins (λ _. 1) longestLine a b (make (a .«has_feed» || b .«has_feed») F I L)
-join-lines a b F I L middle end between e1 e2 e3 e4 e5 e6 = record { joins = λ xs ys light e f.
-    let law : linked a b ≡ longestLine (xs ++ ys) = rw (e, f) (linked-lines xs ys) in
-    let le = lines-bound (xs ++ ys) in
-    let l1 : linked a b .first ≡ longestLine (xs ++ ys) .first = ap (λ (v : LongestLine). v .first) law in
-    let l2 : linked a b .inner ≡ longestLine (xs ++ ys) .inner = ap (λ (v : LongestLine). v .inner) law in
-    let l3 : linked a b .last ≡ longestLine (xs ++ ys) .last = ap (λ (v : LongestLine). v .last) law in
-    exact (a .«has_feed») (b .«has_feed») (a .first) (a .inner) (a .last) (b .first) (b .inner) (b .last) F I L middle end between e1 e2 e3 e4 e5 e6 (omega (arith, le .0)) (omega (arith, le .0)) (omega (arith, le .1)) ∙ law }
+join-lines a b F I L middle end between e1 e2 e3 e4 e5 e6 = record {
+  joins = λ xs ys light e f.
+      let law : linked a b ≡ longestLine (xs ++ ys) = rw (e, f) (linked-lines xs ys) in
+      let le = lines-bound (xs ++ ys) in
+      let l1 : linked a b .first ≡ longestLine (xs ++ ys) .first = ap (λ (v : LongestLine). v .first) law in
+      let l2 : linked a b .inner ≡ longestLine (xs ++ ys) .inner = ap (λ (v : LongestLine). v .inner) law in
+      let l3 : linked a b .last ≡ longestLine (xs ++ ys) .last = ap (λ (v : LongestLine). v .last) law in
+      exact (a .«has_feed») (b .«has_feed») (a .first) (a .inner) (a .last) (b .first) (b .inner) (b .last) F I L middle end between e1 e2 e3 e4 e5 e6 (omega (arith, le .0)) (omega (arith, le .0)) (omega (arith, le .1)) ∙ law;
+}

@@ -27,12 +27,14 @@ weights-marks [] = omega arith
 weights-marks (x ∷ xs) = omega (arith, weights-marks xs, sumBy-cons (λ (m : MarkRow). m .gap) x xs)
 
 pub join-marks : (a b : MarkTotals) (m n : ℕ) → m ≡ min (a .gaps + b .gaps) 4294967295 → n ≡ min (a .count + b .count) 4294967295 → Joins (λ m. m .gap + 1) markTotals a b (make m n)
-join-marks a b m n p q = record { joins = λ xs ys light e f.
-    let w = weights-marks (xs ++ ys) in
-    let A : a .gaps ≡ markTotals xs .gaps = ap (λ (v : MarkTotals). v .gaps) e in
-    let B : b .gaps ≡ markTotals ys .gaps = ap (λ (v : MarkTotals). v .gaps) f in
-    let C : a .count ≡ markTotals xs .count = ap (λ (v : MarkTotals). v .count) e in
-    let D : b .count ≡ markTotals ys .count = ap (λ (v : MarkTotals). v .count) f in
-    let l = gaps-append xs ys in
-    let k = count-append xs ys in
-    make-eq {m = m} {n = n} {p = markTotals (xs ++ ys) .gaps} {q = markTotals (xs ++ ys) .count} (omega arith) (omega arith) }
+join-marks a b m n p q = record {
+  joins = λ xs ys light e f.
+      let w = weights-marks (xs ++ ys) in
+      let A : a .gaps ≡ markTotals xs .gaps = ap (λ (v : MarkTotals). v .gaps) e in
+      let B : b .gaps ≡ markTotals ys .gaps = ap (λ (v : MarkTotals). v .gaps) f in
+      let C : a .count ≡ markTotals xs .count = ap (λ (v : MarkTotals). v .count) e in
+      let D : b .count ≡ markTotals ys .count = ap (λ (v : MarkTotals). v .count) f in
+      let l = gaps-append xs ys in
+      let k = count-append xs ys in
+      make-eq {m = m} {n = n} {p = markTotals (xs ++ ys) .gaps} {q = markTotals (xs ++ ys) .count} (omega arith) (omega arith);
+}

@@ -28,13 +28,15 @@ pub feeds-bytes : (xs : List ℕ) → totals xs .feeds ≤ totals xs .bytes
 feeds-bytes xs = countBy-le-length (λ b. eqb b 0x0A) xs
 
 pub join-totals : (a b : Totals) (m n : ℕ) → m ≡ min (a .bytes + b .bytes) 4294967295 → n ≡ min (a .feeds + b .feeds) 4294967295 → Joins (λ _. 1) totals a b (make m n)
-join-totals a b m n p q = record { joins = λ xs ys light e f.
-    let w = weights-bytes (xs ++ ys) in
-    let A : a .bytes ≡ totals xs .bytes = ap (λ (v : Totals). v .bytes) e in
-    let B : b .bytes ≡ totals ys .bytes = ap (λ (v : Totals). v .bytes) f in
-    let C : a .feeds ≡ totals xs .feeds = ap (λ (v : Totals). v .feeds) e in
-    let D : b .feeds ≡ totals ys .feeds = ap (λ (v : Totals). v .feeds) f in
-    let l = bytes-append xs ys in
-    let k = feeds-append xs ys in
-    let s = feeds-bytes (xs ++ ys) in
-    make-eq {m = m} {n = n} {p = totals (xs ++ ys) .bytes} {q = totals (xs ++ ys) .feeds} (omega arith) (omega arith) }
+join-totals a b m n p q = record {
+  joins = λ xs ys light e f.
+      let w = weights-bytes (xs ++ ys) in
+      let A : a .bytes ≡ totals xs .bytes = ap (λ (v : Totals). v .bytes) e in
+      let B : b .bytes ≡ totals ys .bytes = ap (λ (v : Totals). v .bytes) f in
+      let C : a .feeds ≡ totals xs .feeds = ap (λ (v : Totals). v .feeds) e in
+      let D : b .feeds ≡ totals ys .feeds = ap (λ (v : Totals). v .feeds) f in
+      let l = bytes-append xs ys in
+      let k = feeds-append xs ys in
+      let s = feeds-bytes (xs ++ ys) in
+      make-eq {m = m} {n = n} {p = totals (xs ++ ys) .bytes} {q = totals (xs ++ ys) .feeds} (omega arith) (omega arith);
+}

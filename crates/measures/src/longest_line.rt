@@ -21,6 +21,7 @@ fn pick(c: bool, x: u32, y: u32) -> u32
 
 pub impl Measure for LongestLine as LongestLineMeasure {
     type Item = u8;
+
     type Value = LongestLine;
 
     ghost means = { longestLine };

@@ -23,6 +23,7 @@ pub struct MarkTotals {
 
 pub impl Measure for MarkTotals as MarkTotalsMeasure {
     type Item = MarkRow;
+
     type Value = MarkTotals;
 
     ghost means = { markTotals };

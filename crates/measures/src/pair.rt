@@ -10,6 +10,7 @@ pub struct Pair<L, R> {
 
 pub impl<L: Measure, R: Measure<Item = L::Item>> Measure for Pair<L, R> as PairMeasure {
     type Item = L::Item;
+
     type Value = Pair<L::Value, R::Value>;
 
     ghost means = { λ xs. both (L·Measure .means xs) (R·Measure .means xs) };
@@ -28,7 +29,10 @@ pub impl<L: Measure, R: Measure<Item = L::Item>> Measure for Pair<L, R> as PairM
         }
     }
 
-    fn join(a: &Pair<L::Value, R::Value>, b: &Pair<L::Value, R::Value>) -> Pair<L::Value, R::Value> {
+    fn join(
+        a: &Pair<L::Value, R::Value>,
+        b: &Pair<L::Value, R::Value>,
+    ) -> Pair<L::Value, R::Value> {
         Pair {
             left: L::join(&a.left, &b.left),
             right: R::join(&a.right, &b.right),

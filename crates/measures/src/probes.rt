@@ -58,7 +58,9 @@ pub struct OnLeft<P> {
     pub probe: P,
 }
 
-pub impl<L: Measure, R: Measure<Item = L::Item>, P: Probe<L>> Probe<Pair<L, R>> for OnLeft<P> as OnLeftProbe {
+pub impl<L: Measure, R: Measure<Item = L::Item>, P: Probe<L>> Probe<Pair<L, R>> for OnLeft<
+    P,
+> as OnLeftProbe {
     ghost says = { λ p v. P·Probe .says (p .probe) (v .left) };
 
     fn holds(&self, v: &Pair<L::Value, R::Value>) -> bool {
@@ -72,7 +74,9 @@ pub struct OnRight<P> {
     pub probe: P,
 }
 
-pub impl<L: Measure, R: Measure<Item = L::Item>, P: Probe<R>> Probe<Pair<L, R>> for OnRight<P> as OnRightProbe {
+pub impl<L: Measure, R: Measure<Item = L::Item>, P: Probe<R>> Probe<Pair<L, R>> for OnRight<
+    P,
+> as OnRightProbe {
     ghost says = { λ p v. P·Probe .says (p .probe) (v .right) };
 
     fn holds(&self, v: &Pair<L::Value, R::Value>) -> bool {

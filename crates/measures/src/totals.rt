@@ -11,6 +11,7 @@ pub struct Totals {
 
 pub impl Measure for Totals as TotalsMeasure {
     type Item = u8;
+
     type Value = Totals;
 
     ghost means = { totals };
