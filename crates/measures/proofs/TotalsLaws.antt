@@ -1,15 +1,13 @@
 use mathlib.Core.Path.{_≡_, ap}
 use mathlib.Core.List.{List, _++_}
-use mathlib.Core.Bool.{true}
 use Prim.Native.Nat.{ℕ, _+_, _≤_, min}
 use native.Mathlib.Omega.{arith}
-use lib.Dec.{eqb}
 use lib.ListN.{length-append}
-use Rattle.std.specs.shelf.Lists.{countBy}
-use Rattle.std.proofs.shelf.Sums.{sumBy-append, countBy-le-length}
+use Rattle.plain.specs.Tokens.{feed}
 use Rattle.measures.specs.Law.{Joins}
 use Rattle.measures.specs.Totals.{totals}
 use Rattle.measures.specs.declared.totals.Totals.{Totals}
+use Rattle.measures.proofs.Counts.{count-append, count-length}
 use Rattle.measures.proofs.Weights.{weights-bytes}
 
 abbrev make : ℕ → ℕ → Totals
@@ -22,10 +20,10 @@ pub bytes-append : (xs ys : List ℕ) → totals (xs ++ ys) .bytes ≡ totals xs
 bytes-append xs ys = length-append xs ys
 
 pub feeds-append : (xs ys : List ℕ) → totals (xs ++ ys) .feeds ≡ totals xs .feeds + totals ys .feeds
-feeds-append xs ys = sumBy-append _ xs ys
+feeds-append xs ys = count-append feed xs ys
 
 pub feeds-bytes : (xs : List ℕ) → totals xs .feeds ≤ totals xs .bytes
-feeds-bytes xs = countBy-le-length (λ b. eqb b 0x0A) xs
+feeds-bytes xs = count-length feed xs
 
 pub join-totals : (a b : Totals) (m n : ℕ) → m ≡ min (a .bytes + b .bytes) 4294967295 → n ≡ min (a .feeds + b .feeds) 4294967295 → Joins (λ _. 1) totals a b (make m n)
 join-totals a b m n p q = record {

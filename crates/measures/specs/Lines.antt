@@ -1,20 +1,11 @@
--- The lengths of the lines of a text, and what a list of bytes tells of the longest.
+-- What a list of bytes tells of the longest line of a text that it is part of.
 use mathlib.Core.List.{List, [], _∷_}
-use mathlib.Core.Bool.{true, false, cond}
-use Prim.Native.Nat.{ℕ, suc, max}
-use lib.Dec.{eqb}
+use mathlib.Core.Bool.{true, false}
+use Prim.Native.Nat.{ℕ, max}
+use Rattle.plain.specs.Questions.{lineLengths}
 use Rattle.measures.specs.declared.longest_line.LongestLine.{LongestLine}
 
--- one byte more in the first line
-abbrev pub longer : List ℕ → List ℕ
-longer [] = []
-longer (n ∷ ns) = suc n ∷ ns
-
-abbrev pub lineLengths : List ℕ → List ℕ
-lineLengths [] = 0 ∷ []
-lineLengths (b ∷ bs) = let rest = lineLengths bs in cond (eqb b 0x0A) (0 ∷ rest) (longer rest)
-
--- the greatest of those before the last
+-- the greatest before the last, and the last
 abbrev pub inner : List ℕ → ℕ
 inner [] = 0
 inner (n ∷ []) = 0
@@ -24,10 +15,11 @@ abbrev pub last : ℕ → List ℕ → ℕ
 last n [] = n
 last n (m ∷ ns) = last m ns
 
+-- of the lengths of lines: the first, the greatest between, the last; a line feed parts two lines
 abbrev pub edges : List ℕ → LongestLine
 edges [] = record { «has_feed» = false; first = 0; inner = 0; last = 0 }
 edges (n ∷ []) = record { «has_feed» = false; first = n; inner = 0; last = n }
 edges (n ∷ (m ∷ ns)) = record { «has_feed» = true; first = n; inner = inner (m ∷ ns); last = last m ns }
 
-abbrev pub longestLine : List ℕ → LongestLine
-longestLine bs = edges (lineLengths bs)
+abbrev pub lines : List ℕ → LongestLine
+lines bs = edges (lineLengths bs)

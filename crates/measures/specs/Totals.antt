@@ -1,10 +1,10 @@
 -- How many bytes a list has, and how many line feeds.
 use mathlib.Core.List.{List}
 use Prim.Native.Nat.{ℕ}
-use lib.Dec.{eqb}
 use lib.ListN.{length}
-use Rattle.std.specs.shelf.Lists.{countBy}
+use Rattle.plain.specs.Lists.{count}
+use Rattle.plain.specs.Tokens.{feed}
 use Rattle.measures.specs.declared.totals.Totals.{Totals}
 
 abbrev pub totals : List ℕ → Totals
-totals bs = record { bytes = length bs; feeds = countBy (λ b. eqb b 0x0A) bs }
+totals bs = record { bytes = length bs; feeds = count feed bs }

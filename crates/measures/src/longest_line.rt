@@ -1,7 +1,10 @@
 // The longest line: the first and the last are open at the ends of the list, those between are not.
 ghost use mathlib.Core.Path.{_≡_};
 ghost use mathlib.Core.Bool.{cond};
-ghost use Rattle.measures.specs.Lines.{longestLine};
+ghost use mathlib.Core.List.{List};
+ghost use Prim.Native.Nat.{ℕ, max};
+ghost use Rattle.plain.specs.Questions.{longest};
+ghost use Rattle.measures.specs.Lines.{lines};
 use crate::ByteWeigh;
 use crate::Measure;
 
@@ -11,6 +14,15 @@ pub struct LongestLine {
     pub first: u32,
     pub inner: u32,
     pub last: u32,
+}
+
+impl LongestLine {
+    pub fn longest(&self) -> u32
+        ensures value { λ r. ⌜ r ≡ max (max (now (self .entry) .first) (now (self .entry) .inner)) (now (self .entry) .last) ⌝ }
+        ensures law { λ r. ⌜ ((bs : List ℕ) → now (self .entry) ≡ lines bs → r ≡ longest bs) ⌝ }
+    {
+        self.first.max(self.inner).max(self.last)
+    }
 }
 
 fn pick(c: bool, x: u32, y: u32) -> u32
@@ -24,7 +36,7 @@ pub impl Measure for LongestLine as LongestLineMeasure {
 
     type Value = LongestLine;
 
-    ghost means = { longestLine };
+    ghost means = { lines };
 
     fn empty() -> LongestLine {
         LongestLine {

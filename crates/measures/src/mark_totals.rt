@@ -1,6 +1,9 @@
 // The sum of the gaps of marks, which is the offset of the last, and how many there are.
+ghost use mathlib.Core.List.{List};
+ghost use mathlib.Core.Path.{_≡_};
 ghost use Prim.Native.Nat.{_+_};
-ghost use Rattle.measures.specs.MarkTotals.{markTotals};
+ghost use Rattle.measures.specs.MarkTotals.{markTotals, placed, lastOffset};
+ghost use Rattle.measures.specs.declared.mark_totals.MarkRow.{MarkRow as Row};
 use crate::Measure;
 use crate::Weigh;
 
@@ -19,6 +22,15 @@ pub impl Weigh for MarkRow as MarkWeigh {
 pub struct MarkTotals {
     pub gaps: u32,
     pub count: u32,
+}
+
+impl MarkTotals {
+    pub fn last_offset(&self) -> u32
+        ensures value { λ r. ⌜ r ≡ now (self .entry) .gaps ⌝ }
+        ensures law { λ r. ⌜ ((ms : List Row) → now (self .entry) ≡ markTotals ms → r ≡ lastOffset 0 (placed 0 ms)) ⌝ }
+    {
+        self.gaps
+    }
 }
 
 pub impl Measure for MarkTotals as MarkTotalsMeasure {
