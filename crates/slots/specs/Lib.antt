@@ -1,0 +1,5 @@
+pub mod Words
+pub mod Ghost
+pub mod Sides
+pub mod Values
+pub mod Post
