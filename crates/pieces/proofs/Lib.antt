@@ -1,0 +1,3 @@
+pub mod PartRead
+pub mod RowParts
+pub mod MarkMoves
