@@ -3,3 +3,7 @@ pub mod Shapes
 pub mod Weights
 pub mod Reading
 pub mod Laying
+pub mod Ends
+pub mod Counts
+pub mod Depth
+pub mod Same

@@ -2,4 +2,5 @@
 pub mod arena;
 pub mod digits;
 pub mod records;
+pub mod theorems;
 pub mod values;
