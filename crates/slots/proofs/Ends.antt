@@ -26,6 +26,10 @@ module _ {A : Type 0} where
   ends-flipped Front a b = refl
   ends-flipped Back a b = refl
 
+pub pick-flipped : {A : Type 0} (s : Side) (a b : A) → pick (flipped s) a b ≡ pick s b a
+pick-flipped Front a b = refl
+pick-flipped Back a b = refl
+
 module _ {R V : Type 0} where
   -- a level whose digit on side s is N, and on the other X
   abbrev pub sided : Side → ℕ → V → Arm R V → Finger R V → Arm R V → Finger R V
