@@ -17,13 +17,11 @@ use Rattle.measures.specs.Law.{weights}
 use Rattle.measures.specs.MarkTotals.{gaps, markTotals, placed}
 use Rattle.measures.specs.declared.mark_totals.MarkRow.{MarkRow}
 use Rattle.slots.specs.Values.{flat, wt}
+use Rattle.pieces.specs.Sound.{itself}
 
 abbrev pub gapped : ℕ → ℕ → MarkRow
 gapped g l = record { gap = g; label = l }
 
--- a mark stands for itself
-abbrev pub itself : MarkRow → List MarkRow
-itself x = x ∷ []
 
 pub flat-itself : (xs : List MarkRow) → flat itself xs ≡ xs
 flat-itself [] = refl
