@@ -1,3 +1,4 @@
 pub mod PartRead
 pub mod RowParts
 pub mod MarkMoves
+pub mod CutLeaves

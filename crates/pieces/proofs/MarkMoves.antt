@@ -22,7 +22,6 @@ use Rattle.pieces.specs.Sound.{itself}
 abbrev pub gapped : ℕ → ℕ → MarkRow
 gapped g l = record { gap = g; label = l }
 
-
 pub flat-itself : (xs : List MarkRow) → flat itself xs ≡ xs
 flat-itself [] = refl
 flat-itself (x ∷ xs) = ap (λ r. x ∷ r) (flat-itself xs)
