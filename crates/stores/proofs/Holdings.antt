@@ -90,13 +90,13 @@ joined-more front back back′ more g h =
     ]
 
 -- one byte more read, and put behind those already copied over the front of a buffer
-pub copied-more : (bytes bytes′ old buffer : List ℕ) (from i byte : ℕ) → bytes′ ≡ bytes → ByteAt bytes′ (from + i) (Some byte) → i < length old → buffer ≡ take i (drop from bytes) ++ drop i old → set buffer i byte ≡ take (i + 1) (drop from bytes) ++ drop (i + 1) old
-copied-more bytes bytes′ old buffer from i byte s b k e =
+pub copied-more : (bytes bytes′ old buffer : List ℕ) (from i at byte : ℕ) → bytes′ ≡ bytes → at ≡ from + i → ByteAt bytes′ at (Some byte) → i < length old → buffer ≡ take i (drop from bytes) ++ drop i old → set buffer i byte ≡ take (i + 1) (drop from bytes) ++ drop (i + 1) old
+copied-more bytes bytes′ old buffer from i at byte s a b k e =
     let source : List ℕ = drop from bytes in
     let d = length-drop from bytes in
     let t = length-take i source in
     let n = ap (λ (t : List ℕ). length t) s in
-    let is : byte ≡ getD source i 0 = b .1 ∙ ap (λ (t : List ℕ). getD t (from + i) 0) s ∙ sym (getD-drop from bytes i 0) in
+    let is : byte ≡ getD source i 0 = b .1 ∙ ap (λ (t : List ℕ). getD t at 0) s ∙ ap (λ (j : ℕ). getD bytes j 0) a ∙ sym (getD-drop from bytes i 0) in
     ap (λ (t : List ℕ). set t i byte) (e ∙ ap (λ (t : List ℕ). take i source ++ t) (drop-more old i 0 k))
     ∙ set-at (take i source) (getD old i 0) (drop (i + 1) old) byte i (omega arith)
     ∙ ap (λ (x : ℕ). take i source ++ (x ∷ drop (i + 1) old)) is

@@ -1,7 +1,6 @@
 -- What the four kinds of store mean. The limits hold of every value, also of those that no call makes.
-use mathlib.Core.Path.{_≡_}
 use mathlib.Core.List.{List, _++_}
-use Prim.Native.Nat.{ℕ, _+_, _<_, _≤_, min}
+use Prim.Native.Nat.{ℕ, _+_, min}
 use lib.ListN.{length, take, replicate}
 use denote.Ref.{now}
 use Rattle.stores.specs.Stores.{largest, summed}

@@ -1,8 +1,8 @@
 -- Each kind of store is lawful.
-use mathlib.Core.List.{List, _++_}
+use mathlib.Core.List.{List}
 use Prim.Native.Nat.{ℕ}
 use native.Mathlib.Omega.{arith}
-use lib.ListN.{length, take, length-take, length-append, length-replicate}
+use lib.ListN.{length-take, length-append, length-replicate}
 use denote.Ref.{now}
 use Rattle.stores.specs.Stores.{largest, Lawful}
 use Rattle.stores.specs.Kinds.{counting, filledPart, originalBytes, originalCapacity, originalReads, bufferBytes, bufferCapacity, bufferReads, filledBytes, filledCapacity, filledReads, joinedBytes, joinedCapacity, joinedReads}

@@ -59,7 +59,7 @@ module _ {S : Type 0} (bytes : S → List ℕ) (capacity reads : S → ℕ) wher
     pub same-capacity : capacity s′ ≡ capacity s
     pub same-reads : reads s′ ≡ reads s
 
-  -- from s to s′ by a copy of r bytes over the front of a buffer
+  -- from s to s′ by a copy of r bytes to the front of a buffer
   pub record CopiesOut (s : S) (from : ℕ) (buffer : List ℕ) (r : ℕ) (s′ : S) (buffer′ : List ℕ) : Type 0 where
     pub copied : r ≡ min (length buffer) (length (bytes s) - from)
     pub written : buffer′ ≡ take r (drop from (bytes s)) ++ drop r buffer

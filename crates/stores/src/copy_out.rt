@@ -2,7 +2,8 @@
 ghost use Rattle.stores.specs.Stores.{CopiesOut};
 use crate::Store;
 
-// Copies bytes from `from` on over the front of the buffer, as many as there are and have room, each read once.
+// Copies the bytes from `from` on to the front of the buffer, as many as there are and fit, each read once.
+// Gives how many.
 pub fn copy_out<S: Store>(store: &mut S, from: u32, buffer: &mut [u8]) -> usize
     ensures { λ r. ⌜ CopiesOut (S·Store .bytes) (S·Store .capacity) (S·Store .reads) (now (store .entry)) from (now (buffer .entry)) r (now (store .exit)) (now (buffer .exit)) ⌝ }
 {

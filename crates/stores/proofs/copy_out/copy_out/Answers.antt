@@ -16,7 +16,7 @@ loop-i-again g c =
     let same = ap (λ (t : List ℕ). length t) (v .0) in
     let copied : c .match-read .buffer ≡ take (i + 1) (drop (c .args .from) bytes) ++ drop (i + 1) old =
     elim (c .match-read .came) [
-      | in-Some w ↦ w .buffer-is ∙ copied-more bytes (g .S·Store .bytes (c .loop-i .store)) old (c .loop-i .buffer) (c .args .from) i (w .in-Some .byte) (v .0) (w .in-Some .ensures tt .gives) (omega arith) (v .3)
+      | in-Some w ↦ w .buffer-is ∙ copied-more bytes (g .S·Store .bytes (c .loop-i .store)) old (c .loop-i .buffer) (c .args .from) i _ (w .in-Some .byte) (v .0) (omega arith) (w .in-Some .ensures tt .gives) (omega arith) (v .3)
       | in-rest w ↦ absurd (omega (arith, w .in-rest .ensures tt .gives))
     ] in
     (c .read .ensures .same-bytes ∙ v .0, c .read .ensures .same-capacity ∙ v .1, omega arith, copied)

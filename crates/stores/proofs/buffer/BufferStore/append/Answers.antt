@@ -21,7 +21,7 @@ returns-then-more-spare c =
       outcome = record {
         fits = omega arith;
         begins = c .len-length .ensures;
-        grown = filled-more (s .used) (a + length more) (s .space .now) more (c .copy-from-slice .last .self) a (a + length more - a) wrote (c .len-length .ensures) refl (omega arith) (omega arith);
+        grown = filled-more (s .used) _ (s .space .now) more (c .copy-from-slice .last .self) a (a + length more - a) wrote (c .len-length .ensures) (omega arith) (omega arith) (omega arith);
       };
       same-capacity = search (needs, overwrites);
       same-reads = refl;
