@@ -15,11 +15,16 @@ use Rattle.plain.specs.Lists.{among, count, first}
 use Rattle.plain.specs.Tokens.{letter, digit, white, feed, quote, escape, hash, left, right, symbol, stays, begun, step, endState, tokens, tokensFrom}
 use Rattle.plain.specs.Brackets.{Settled, unmet, bracketsFrom, brackets, isStray, isUnmet, waiting, closed, settled}
 use Rattle.plain.specs.declared.answers.Token.{Token}
-use Rattle.measures.proofs.Counts.{one-at-most, count-append}
+use Rattle.measures.proofs.Counts.{one-at-most, count-append, count-length}
 use Rattle.measures.proofs.Folds.{folded-append, folded-through, folded-bound}
 use Rattle.measures.proofs.Weights.{weights-bytes}
-use Rattle.measures.specs.Law.{weights, heaviest}
+use Rattle.measures.specs.Law.{heaviest}
+use Rattle.measures.specs.Totals.{totals}
+use Rattle.measures.specs.declared.totals.Totals.{Totals}
+use Rattle.plain.specs.Questions.{summary}
+use Rattle.plain.specs.declared.answers.Summary.{Summary}
 use Rattle.lexer.specs.Reading.{beginnings, readFrom, reading, rowAt, Whole}
+use Rattle.lexer.specs.Summing.{summed}
 use Rattle.lexer.specs.declared.tokens.TokenRow.{TokenRow}
 
 abbrev make : ℕ → ℕ → ℕ → ℕ → TokenRow
@@ -169,12 +174,6 @@ pub state-bound : (s : ℕ) (bs : List ℕ) → s ≤ 12 → readFrom s bs .stat
 unfolding readFrom
 state-bound s bs h = end-bound s bs h
 
-pub tokens-grow : (s : ℕ) (xs ys : List ℕ) → readFrom s xs .tokens ≤ readFrom s (xs ++ ys) .tokens
-tokens-grow s xs ys = omega (arith, ap (λ (r : TokenRow). r .tokens) (after-read s xs ys))
-
-pub strays-grow : (s : ℕ) (xs ys : List ℕ) → readFrom s xs .strays ≤ readFrom s (xs ++ ys) .strays
-strays-grow s xs ys = omega (arith, ap (λ (r : TokenRow). r .strays) (after-read s xs ys))
-
 -- the rows of a value
 pub row-read : (bs : List ℕ) (s : ℕ) (d : TokenRow) → s < 13 → getD (reading bs) s d ≡ readFrom s bs
 row-read bs s d h = getD-map-counting (λ s. readFrom s bs) 0 13 s s d h (omega arith)
@@ -185,6 +184,18 @@ row-at v bs s h e =
   where
     min-is : (s : ℕ) → s ≤ 12 → min s 12 ≡ s
     min-is s h = omega arith
+
+pub row-last : (bs : List ℕ) (s : ℕ) → rowAt (reading bs) s ≡ readFrom (min s 12) bs
+row-last bs s = row-read bs (min s 12) (start 0) (omega arith)
+
+-- reading on begins no fewer tokens and leaves no fewer strays
+pub tokens-grow : (s : ℕ) (xs ys : List ℕ) → rowAt (reading xs) s .tokens ≤ rowAt (reading (xs ++ ys)) s .tokens
+tokens-grow s xs ys =
+    omega (arith, ap (λ (r : TokenRow). r .tokens) (after-read (min s 12) xs ys), ap (λ (r : TokenRow). r .tokens) (row-last xs s), ap (λ (r : TokenRow). r .tokens) (row-last (xs ++ ys) s))
+
+pub strays-grow : (s : ℕ) (xs ys : List ℕ) → rowAt (reading xs) s .strays ≤ rowAt (reading (xs ++ ys)) s .strays
+strays-grow s xs ys =
+    omega (arith, ap (λ (r : TokenRow). r .strays) (after-read (min s 12) xs ys), ap (λ (r : TokenRow). r .strays) (row-last xs s), ap (λ (r : TokenRow). r .strays) (row-last (xs ++ ys) s))
 
 -- the row at the state where another row ends
 pub row-next : (v : List TokenRow) (s : ℕ) (xs ys : List ℕ) (r : TokenRow) → s ≤ 12 → r ≡ readFrom s xs → v ≡ reading ys → rowAt v (r .state) ≡ readFrom (r .state) ys
@@ -253,3 +264,18 @@ rows-more P r rows i lt below here =
 
 pub rows-all : (bs : List ℕ) (rows : List TokenRow) → length rows ≡ 13 → ((k : ℕ) → k < 13 → getD rows k (start 0) ≡ readFrom k bs) → rows ≡ reading bs
 rows-all bs rows len each = fill-by-all (λ s. readFrom s bs) rows 13 (start 0) len each
+
+abbrev sums : ℕ → ℕ → ℕ → ℕ → ℕ → Summary
+sums n l t s u = record { bytes = n; lines = l; tokens = t; strays = s; unmet = u }
+
+sums-eq : {n n′ l l′ t t′ s s′ u u′ : ℕ} → n ≡ n′ → l ≡ l′ → t ≡ t′ → s ≡ s′ → u ≡ u′ → sums n l t s u ≡ sums n′ l′ t′ s′ u′
+sums-eq a b c d e = cc
+
+pub summed-by : (v : Totals) (r : TokenRow) (l : ℕ) → l ≡ min (v .feeds + 1) 4294967295 → sums (v .bytes) l (r .tokens) (r .strays) (r .unmet) ≡ summed v r
+summed-by v r l e = ap (λ n. sums (v .bytes) n (r .tokens) (r .strays) (r .unmet)) e
+
+pub summed-whole : (v : Totals) (r : TokenRow) (bs : List ℕ) → length bs ≤ heaviest → v ≡ totals bs → Whole bs r → summed v r ≡ summary bs
+summed-whole v r bs light e h =
+    let b : v .feeds ≡ count feed bs = ap (λ (u : Totals). u .feeds) e in
+    let c : min (v .feeds + 1) 4294967295 ≡ summary bs .lines = omega (arith, count-length feed bs) in
+    sums-eq (ap (λ (u : Totals). u .bytes) e) c (h .begun) (h .stray) (h .left)
