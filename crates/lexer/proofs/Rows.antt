@@ -262,6 +262,14 @@ rows-more P r rows i lt below here =
     apart : (k : ℕ) → k < i → k ≡ i → ⊥
     apart k h e = omega arith
 
+-- and leaves those after
+pub rows-after : (r : TokenRow) (rows old : List TokenRow) (i : ℕ) → ((k : ℕ) → i ≤ k → getD rows k (start 0) ≡ getD old k (start 0))
+    → (k : ℕ) → i + 1 ≤ k → getD (set rows i r) k (start 0) ≡ getD old k (start 0)
+rows-after r rows old i kept k h = getD-set-other rows i k r (start 0) (apart k h) ∙ kept k (omega arith)
+  where
+    apart : (k : ℕ) → i + 1 ≤ k → k ≡ i → ⊥
+    apart k h e = omega arith
+
 pub rows-all : (bs : List ℕ) (rows : List TokenRow) → length rows ≡ 13 → ((k : ℕ) → k < 13 → getD rows k (start 0) ≡ readFrom k bs) → rows ≡ reading bs
 rows-all bs rows len each = fill-by-all (λ s. readFrom s bs) rows 13 (start 0) len each
 

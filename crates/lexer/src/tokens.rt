@@ -111,7 +111,9 @@ pub impl Measure for Tokens as TokensMeasure {
     }
 
     fn one(item: u8) -> Rows {
-        Self::add(&Self::empty(), item)
+        let mut rows = Self::empty();
+        Self::add(&mut rows, item);
+        rows
     }
 
     fn join(a: &Rows, b: &Rows) -> Rows {
@@ -133,11 +135,9 @@ pub impl Measure for Tokens as TokensMeasure {
     }
 
     // Thirteen steps, where a join would make two rows and join them for each state.
-    fn add(a: &Rows, item: u8) -> Rows {
-        let mut rows = *a;
+    fn add(a: &mut Rows, item: u8) {
         for s in 0..13 {
-            rows[s] = a[s].and_byte(item);
+            a[s] = a[s].and_byte(item);
         }
-        rows
     }
 }

@@ -43,10 +43,8 @@ pub impl<L: Measure, R: Measure<Item = L::Item>> Measure for Pair<L, R> as PairM
         L::same(&a.left, &b.left) && R::same(&a.right, &b.right)
     }
 
-    fn add(a: &Pair<L::Value, R::Value>, item: L::Item) -> Pair<L::Value, R::Value> {
-        Pair {
-            left: L::add(&a.left, item),
-            right: R::add(&a.right, item),
-        }
+    fn add(a: &mut Pair<L::Value, R::Value>, item: L::Item) {
+        L::add(&mut a.left, item);
+        R::add(&mut a.right, item);
     }
 }

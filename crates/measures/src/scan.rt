@@ -9,7 +9,7 @@ pub fn measured<M: Measure>(items: &[M::Item]) -> M::Value
 {
     let mut all = M::empty();
     for item in items {
-        all = M::add(&all, *item);
+        M::add(&mut all, *item);
     }
     all
 }

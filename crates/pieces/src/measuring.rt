@@ -16,7 +16,7 @@ pub fn measure_piece<S: Store, M: Measure<Item = u8>>(
     let mut value = M::empty();
     for i in 0..piece.length {
         match store.read(piece.address + i as u32) {
-            Some(byte) => value = M::add(&value, byte),
+            Some(byte) => M::add(&mut value, byte),
             None => return Err(Unsound),
         }
     }

@@ -8,7 +8,7 @@ pub loop-i-holds : need.loop-i-holds
 loop-i-holds g c = partly-none (g .S·Store .lawful .stops (c .args .store .now)) (c .empty-value .ensures)
 
 pub loop-i-again : need.loop-i-again
-loop-i-again g c = partly-more (c .loop-i-test .taken) (c .loop-i .inv) (c .in-Some .ensures tt) (c .add-value .ensures)
+loop-i-again g c = partly-more (c .loop-i-test .taken) (c .loop-i .inv) (c .in-Some .ensures tt) (c .add .ensures)
 
 pub returns : need.returns
 returns g c = partly-all (c .loop-i-test .left) (c .loop-i .kept .i-end) (c .loop-i .inv)

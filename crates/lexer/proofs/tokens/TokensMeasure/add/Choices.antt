@@ -8,4 +8,7 @@ use Rattle.lexer.proofs.Rows.{start}
 use Rattle.lexer.proofs.tokens.TokensMeasure.add.Given as given
 
 abbrev pub Inv-loop-s : given.InvT-loop-s
-Inv-loop-s l = (length (l .rows) ≡ 13) × ((k : ℕ) → k < l .s → (bs : List ℕ) → length bs < heaviest → l .a ≡ reading bs → getD (l .rows) k (start 0) ≡ readFrom k (bs ++ (l .item ∷ [])))
+Inv-loop-s l =
+    (length (l .a) ≡ 13)
+    × ((k : ℕ) → k < l .s → (bs : List ℕ) → length bs < heaviest → l .entry .a ≡ reading bs → getD (l .a) k (start 0) ≡ readFrom k (bs ++ (l .item ∷ [])))
+    × ((k : ℕ) → l .s ≤ k → getD (l .a) k (start 0) ≡ getD (l .entry .a) k (start 0))
