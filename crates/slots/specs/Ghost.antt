@@ -85,6 +85,12 @@ module _ {R V : Type 0} where
   rows (one w) = rows-twig w
   rows (deep i v f m b) = (rows-arm f ++ rows m) ++ rows-arm b
 
+  -- not empty
+  abbrev pub Full : Finger R V → Type 0
+  Full nil = ⊥
+  Full (one w) = Unit {0}
+  Full (deep i v f m b) = Unit {0}
+
   abbrev pub levels : Finger R V → ℕ
   levels nil = 0
   levels (one w) = 0

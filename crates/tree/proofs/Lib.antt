@@ -1,2 +1,3 @@
 pub mod Levels
 pub mod Pushes
+pub mod Shrinking

@@ -1,7 +1,7 @@
 // Nodes and levels written into slots.
 ghost use mathlib.Core.Path.{_≡_};
 ghost use Rattle.slots.specs.Sides.{pick as picked};
-ghost use Rattle.tree.specs.Post.{JoinedEnds, LevelPut, NodePut, NodeTaken};
+ghost use Rattle.tree.specs.Post.{JoinedEnds, LevelPut, NodePut, NodeTaken, Settled, Replanted, Planted};
 use measures::Measure;
 use slots::arena::give_slot;
 use slots::arena::parts_at;
@@ -17,6 +17,7 @@ use slots::records::Tree;
 use slots::records::Unsound;
 use slots::values::digit_value;
 use slots::values::join_at;
+use slots::values::level_value;
 use slots::values::value_at;
 
 // The value of slot x, joined at that side to the value of slot i.
@@ -88,4 +89,77 @@ pub fn take_node<R: Copy, V: Copy>(
     let parts = parts_at(slots, n)?;
     give_slot(slots, free, n)?;
     Ok(parts)
+}
+
+// A level in slot i, with the value of all its parts.
+pub fn settle<R: Copy, M: Measure>(
+    slots: &mut [Record<R, M::Value>],
+    side: Side,
+    i: u16,
+    near: Digit,
+    middle: Tree,
+    far: Digit,
+) -> Result<Tree, Unsound>
+    ensures { λ r. ⌜ Settled (Item·Weigh .weight) (M·Measure .means) (now (slots .entry)) (now (slots .exit)) side i near middle far r ⌝ }
+{
+    let value = level_value::<R, M>(slots, pick(side, near, far), middle, pick(side, far, near));
+    put_level(slots, side, i, near, middle, far, value)
+}
+
+// The tree of a digit's slots, in slot i; one slot alone needs no level, and i is given back.
+pub fn replant<R: Copy, M: Measure>(
+    slots: &mut [Record<R, M::Value>],
+    free: &mut Link,
+    i: u16,
+    digit: Digit,
+) -> Result<Tree, Unsound>
+    ensures { λ r. ⌜ Replanted (Item·Weigh .weight) (M·Measure .means) (now (slots .entry)) (now (slots .exit)) (now (free .entry)) (now (free .exit)) i digit r ⌝ }
+{
+    match digit {
+        Digit::One(a) => {
+            give_slot(slots, free, i)?;
+            Ok(Tree::Single(a))
+        }
+        Digit::Two(a, b) => settle::<R, M>(
+            slots,
+            Side::Front,
+            i,
+            Digit::One(a),
+            Tree::Empty,
+            Digit::One(b),
+        ),
+        Digit::Three(a, b, c) => settle::<R, M>(
+            slots,
+            Side::Front,
+            i,
+            Digit::Two(a, b),
+            Tree::Empty,
+            Digit::One(c),
+        ),
+        Digit::Four(a, b, c, d) => settle::<R, M>(
+            slots,
+            Side::Front,
+            i,
+            Digit::Two(a, b),
+            Tree::Empty,
+            Digit::Two(c, d),
+        ),
+    }
+}
+
+// The tree of up to four slots.
+pub fn plant<R: Copy, M: Measure>(
+    slots: &mut [Record<R, M::Value>],
+    free: &mut Link,
+    part: Option<Digit>,
+) -> Result<Tree, Unsound>
+    ensures { λ r. ⌜ Planted (Item·Weigh .weight) (M·Measure .means) (now (slots .entry)) (now (slots .exit)) (now (free .entry)) (now (free .exit)) part r ⌝ }
+{
+    match part {
+        None => Ok(Tree::Empty),
+        Some(digit) => {
+            let i = take_slot(slots, free)?;
+            replant::<R, M>(slots, free, i, digit)
+        }
+    }
 }
