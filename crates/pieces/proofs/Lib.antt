@@ -4,3 +4,4 @@ pub mod MarkMoves
 pub mod CutLeaves
 pub mod Bench
 pub mod FitMore
+pub mod RowCuts
