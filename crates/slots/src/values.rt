@@ -3,6 +3,7 @@ ghost use mathlib.Core.Path.{_≡_};
 ghost use lib.ListN.{getD};
 ghost use Rattle.slots.specs.Ghost.{none};
 ghost use Rattle.slots.specs.Values.{value-in, JoinedOk};
+ghost use Rattle.std.specs.declared.result.Result.the-variants.{Ok};
 ghost use Rattle.slots.specs.Post.{DigitValued, PartValued, TreeValued, LevelValued};
 use crate::records::Digit;
 use crate::records::Record;
@@ -38,6 +39,25 @@ pub fn join_values<M: Measure>(
 }
 
 // Joins the value in a slot on, without a copy of it.
+pub fn join_on<R: Copy, M: Measure>(
+    slots: &[Record<R, M::Value>],
+    before: &M::Value,
+    i: u16,
+) -> Result<M::Value, Unsound>
+    ensures { λ r. ⌜ JoinedOk (Item·Weigh .weight) (M·Measure .means) (Ok (now (before .entry))) (value-in (getD (now (slots .entry)) i none)) r ⌝ }
+{
+    if i as usize >= slots.len() {
+        return Err(Unsound);
+    }
+    match &slots[i as usize] {
+        Record::Free(_) => Err(Unsound),
+        Record::Leaf { value, .. } => Ok(M::join(before, value)),
+        Record::Node2 { value, .. } => Ok(M::join(before, value)),
+        Record::Node3 { value, .. } => Ok(M::join(before, value)),
+        Record::Level { value, .. } => Ok(M::join(before, value)),
+    }
+}
+
 pub fn join_at<R: Copy, M: Measure>(
     slots: &[Record<R, M::Value>],
     before: Result<M::Value, Unsound>,
@@ -46,18 +66,7 @@ pub fn join_at<R: Copy, M: Measure>(
     ensures { λ r. ⌜ JoinedOk (Item·Weigh .weight) (M·Measure .means) before (value-in (getD (now (slots .entry)) i none)) r ⌝ }
 {
     match before {
-        Ok(v) => {
-            if i as usize >= slots.len() {
-                return Err(Unsound);
-            }
-            match &slots[i as usize] {
-                Record::Free(_) => Err(Unsound),
-                Record::Leaf { value, .. } => Ok(M::join(&v, value)),
-                Record::Node2 { value, .. } => Ok(M::join(&v, value)),
-                Record::Node3 { value, .. } => Ok(M::join(&v, value)),
-                Record::Level { value, .. } => Ok(M::join(&v, value)),
-            }
-        }
+        Ok(v) => join_on::<R, M>(slots, &v, i),
         Err(e) => Err(e),
     }
 }
