@@ -1,0 +1,5 @@
+mod Moves
+mod Numbers
+mod Pairs
+mod Parting
+mod Records
