@@ -2,7 +2,7 @@ mod Appending
 mod Moves
 mod Numbers
 mod Pairs
-mod Parting
+pub mod Parting
 mod Printed
 mod Records
 mod Written

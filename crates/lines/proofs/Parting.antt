@@ -61,3 +61,12 @@ module _ (s : ℕ) (t : List ℕ) where
       e
       ∙ ap (λ (l : List ℕ). prefixed (take i t) (parted s l)) (drop-all i t h)
       ∙ ap (λ (p : List ℕ). p ∷ []) (append-nil (take i t) ∙ take-all i t h)
+
+-- there is always a part
+pub parted-some : (s : ℕ) (t : List ℕ) → (x : List ℕ) × ((xs : List (List ℕ)) × (parted s t ≡ x ∷ xs))
+parted-some s [] = ([], ([], refl))
+parted-some s (b ∷ bs) = go (eqb b s) (parted-some s bs)
+  where
+    go : (q : Bool) → (x : List ℕ) × ((xs : List (List ℕ)) × (parted s bs ≡ x ∷ xs)) → (x : List ℕ) × ((xs : List (List ℕ)) × (cond q ([] ∷ parted s bs) (onto b (parted s bs)) ≡ x ∷ xs))
+    go true p = ([], (parted s bs, refl))
+    go false p = (b ∷ p .0, (p .1 .0, ap (onto b) (p .1 .1)))

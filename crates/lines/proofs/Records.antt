@@ -11,7 +11,8 @@ use Rattle.std.specs.Options.{mapped}
 use Rattle.std.specs.declared.option.Option.{Option}
 use Rattle.std.specs.declared.option.Option.the-variants.{None, Some}
 use Rattle.plain.specs.Lists.{same}
-use Rattle.plain.specs.Script.{Request, onto, parted, atMost, readFields, readLine}
+use Rattle.plain.specs.Script.{Request, parted, atMost, readFields, readLine}
+use Rattle.lines.proofs.Parting.{parted-some}
 use Rattle.plain.specs.declared.calls.Request.the-variants.{Open}
 
 -- a name of other than one byte is that of no record
@@ -29,15 +30,6 @@ module _ (f : List ℕ) (h : length f ≡ 1 → ⊥) where
 
   pub nameless-three : (x y : List ℕ) → None ≡ readFields (f ∷ (x ∷ (y ∷ [])))
   nameless-three x y = simp (nameless f)
-
--- there is always a part
-parted-some : (s : ℕ) (t : List ℕ) → (x : List ℕ) × ((xs : List (List ℕ)) × (parted s t ≡ x ∷ xs))
-parted-some s [] = ([], ([], refl))
-parted-some s (b ∷ bs) = go (eqb b s) (parted-some s bs)
-  where
-    go : (q : Bool) → (x : List ℕ) × ((xs : List (List ℕ)) × (parted s bs ≡ x ∷ xs)) → (x : List ℕ) × ((xs : List (List ℕ)) × (cond q ([] ∷ parted s bs) (onto b (parted s bs)) ≡ x ∷ xs))
-    go true p = ([], (parted s bs, refl))
-    go false p = (b ∷ p .0, (p .1 .0, ap (onto b) (p .1 .1)))
 
 too-many : (f x y t : List ℕ) → None ≡ readFields (f ∷ (x ∷ (y ∷ parted 9 t)))
 too-many f x y t = let p = parted-some 9 t in sym (ap (λ (zs : List (List ℕ)). readFields (f ∷ (x ∷ (y ∷ zs)))) (p .1 .1))

@@ -1,0 +1,4 @@
+mod Splitting
+mod Steps
+mod Rounds
+mod Opening
