@@ -78,7 +78,7 @@ module _ (B : List ℕ) (xs : List PieceRow) (x : PieceRow) (a k : ℕ) (at : a 
     pub between-apart : between a b (P (xs ++ (x ∷ (zs ++ (y ∷ ws))))) ≡ P (rest-of k x ++ (zs ++ front-of j y))
     between-apart =
         let left : AllGood B (x ∷ (zs ++ front-of j y)) =
-            (good-x .0, all-append B zs (front-of j y) (all-left B zs (y ∷ ws) (good-x .1)) (front-good B j y end (good-y .0))) in
+        (good-x .0, all-append B zs (front-of j y) (all-left B zs (y ∷ ws) (good-x .1)) (front-good B j y end (good-y .0))) in
         ap (after a) (ap (λ l. before b (P l)) apart ∙ before-at B (xs ++ (x ∷ zs)) y ws b j good-y there end ∙ ap P (append-assoc xs (x ∷ zs) (front-of j y)))
         ∙ after-at B xs x (zs ++ front-of j y) a k left at (omega arith)
 

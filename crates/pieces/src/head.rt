@@ -15,6 +15,7 @@ pub type TextMeasure<A> = Pair<Pair<Totals, Tokens>, A>;
 
 // What a slot of the text's slice holds, V being the values of the added measure, and what one of the marks' does.
 pub type TextRecord<V> = Record<PieceRow, Pair<Pair<Totals, Rows>, V>>;
+
 pub type MarkRecord = Record<MarkRow, MarkTotals>;
 
 // The roots of the trees, the free slots of both slices, and the counts: `pieces` of text and clip together.

@@ -1,0 +1,2 @@
+// Every edit of a text, as functions on a head and the lent slices.
+pub mod edges;
