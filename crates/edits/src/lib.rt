@@ -1,2 +1,3 @@
 // Every edit of a text, as functions on a head and the lent slices.
+pub mod doors;
 pub mod edges;
