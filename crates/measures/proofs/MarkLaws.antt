@@ -21,7 +21,7 @@ gaps-append (x ∷ xs) ys = omega (arith, gaps-append xs ys)
 pub count-append : (xs ys : List MarkRow) → markTotals (xs ++ ys) .count ≡ markTotals xs .count + markTotals ys .count
 count-append xs ys = length-append xs ys
 
-weights-marks : (xs : List MarkRow) → weights (λ m. m .gap + 1) xs ≡ markTotals xs .gaps + markTotals xs .count
+pub weights-marks : (xs : List MarkRow) → weights (λ m. m .gap + 1) xs ≡ markTotals xs .gaps + markTotals xs .count
 weights-marks [] = omega arith
 weights-marks (x ∷ xs) = omega (arith, weights-marks xs)
 
