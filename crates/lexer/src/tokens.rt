@@ -58,13 +58,14 @@ impl TokenRow {
     fn and_row(&self, row: &TokenRow) -> TokenRow
         ensures { λ r. ⌜ ((s : ℕ) (xs ys : List ℕ) → length (xs ++ ys) ≤ heaviest → now (self .entry) ≡ readFrom s xs → now (row .entry) ≡ readFrom (now (self .entry) .state) ys → r ≡ readFrom s (xs ++ ys)) ⌝ }
     {
+        // Closes of the second list meet opens of the first.
+        let strays = row.strays.saturating_sub(self.unmet);
+        let unmet = self.unmet.saturating_sub(row.strays);
         TokenRow {
             state: row.state,
             tokens: self.tokens.saturating_add(row.tokens),
-            strays: self.strays
-                .saturating_add(row.strays.saturating_sub(self.unmet)),
-            unmet: row.unmet
-                .saturating_add(self.unmet.saturating_sub(row.strays)),
+            strays: self.strays.saturating_add(strays),
+            unmet: row.unmet.saturating_add(unmet),
         }
     }
 
