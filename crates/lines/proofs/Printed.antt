@@ -24,7 +24,7 @@ printed-first : (f : List ℕ) (fs : List (List ℕ)) → printed (f ∷ fs) ≡
 printed-first f [] = refl
 printed-first f (g ∷ gs) = ap (λ (l : List ℕ). f ++ (9 ∷ l)) (printed-first g gs)
 
-pub unprinted-more : (i : ℕ) (fs : List (List ℕ)) → i < length fs → unprinted i fs ≡ cond (eqb i 0) [] (9 ∷ []) ++ (getD fs i [] ++ unprinted (i + 1) fs)
+unprinted-more : (i : ℕ) (fs : List (List ℕ)) → i < length fs → unprinted i fs ≡ cond (eqb i 0) [] (9 ∷ []) ++ (getD fs i [] ++ unprinted (i + 1) fs)
 unprinted-more zero [] h = absurd (omega arith)
 unprinted-more zero (f ∷ fs) h = printed-first f fs
 unprinted-more (suc j) fs h =
@@ -34,19 +34,23 @@ unprinted-more (suc j) fs h =
     ∙ ap (λ (n : ℕ). 9 ∷ (getD fs (suc j) [] ++ unprinted n fs)) (sym e)
     ∙ ap (λ (q : Bool). cond q [] (9 ∷ []) ++ (getD fs (suc j) [] ++ unprinted (suc j + 1) fs)) (sym (ne-eqb (suc j) 0 (λ z. omega arith)))
 
-pub unprinted-all : (i : ℕ) (fs : List (List ℕ)) → length fs ≤ i → unprinted i fs ≡ 10 ∷ []
+unprinted-all : (i : ℕ) (fs : List (List ℕ)) → length fs ≤ i → unprinted i fs ≡ 10 ∷ []
 unprinted-all zero [] h = refl
 unprinted-all zero (f ∷ fs) h = absurd (omega arith)
 unprinted-all (suc i) fs h = ap tabbed (drop-all (suc i) fs h)
 
--- one field more
-pub print-more : (i : ℕ) (fs : List (List ℕ)) (out mid new all : List ℕ) → i < length fs → out ++ unprinted i fs ≡ all → mid ≡ out ++ cond (eqb i 0) [] (9 ∷ []) → new ≡ mid ++ getD fs i [] → new ++ unprinted (i + 1) fs ≡ all
-print-more i fs out mid new all h e p q =
-    let gap = cond (eqb i 0) [] (9 ∷ []) in
-    let f = getD fs i [] in
-    let rest = unprinted (i + 1) fs in
-    ap (λ (l : List ℕ). l ++ rest) (q ∙ ap (λ (l : List ℕ). l ++ f) p)
-    ∙ append-assoc (out ++ gap) f rest
-    ∙ append-assoc out gap (f ++ rest)
-    ∙ ap (λ (l : List ℕ). out ++ l) (sym (unprinted-more i fs h))
-    ∙ e
+-- one field f more, and the line feed at the end
+module _ (i : ℕ) (fs : List (List ℕ)) (out new all : List ℕ) where
+  pub print-more : (mid f : List ℕ) → i < length fs → out ++ unprinted i fs ≡ all → mid ≡ out ++ cond (eqb i 0) [] (9 ∷ []) → new ≡ mid ++ f → getD fs i [] ≡ f → new ++ unprinted (i + 1) fs ≡ all
+  print-more mid f h e p q g =
+      let gap = cond (eqb i 0) [] (9 ∷ []) in
+      let rest = unprinted (i + 1) fs in
+      ap (λ (l : List ℕ). l ++ rest) (q ∙ ap (λ (l : List ℕ). l ++ f) p)
+      ∙ append-assoc (out ++ gap) f rest
+      ∙ append-assoc out gap (f ++ rest)
+      ∙ ap (λ (l : List ℕ). out ++ (gap ++ (l ++ rest))) (sym g)
+      ∙ ap (λ (l : List ℕ). out ++ l) (sym (unprinted-more i fs h))
+      ∙ e
+
+  pub print-last : length fs ≤ i → out ++ unprinted i fs ≡ all → new ≡ out ++ (10 ∷ []) → new ≡ all
+  print-last h e p = p ∙ ap (λ (l : List ℕ). out ++ l) (sym (unprinted-all i fs h)) ∙ e

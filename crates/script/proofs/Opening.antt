@@ -64,12 +64,16 @@ module _ (s : List ℕ) where
       ∙ ap (λ (b : Bool). opens i (elim (cond b None (Some Pieces)) as (λ _. Result Machine TextFault) [ None ↦ Ok (fresh s (length s + 4096) 168 168) | Some f ↦ Err f ])) (le-leb (length s) 5120 h)
       ∙ ap (λ (t : List ℕ). (Some (opened s), answerFields (length t) Done)) (opened-text s)
 
--- what is printed after opening t, which is s
-pub open-lines : {T E : Type 0} (r : Result T E) (i : ℕ) (s t rest : List ℕ) (n : ℕ) (old mid new : List ℕ) → t ≡ s → n ≡ length s → mid ≡ old ++ printed (answerFields n Done) → made r (λ _. new ≡ mid ++ earlyFrom i (Some (opened t)) (linesOf rest)) → made r (λ _. new ≡ old ++ (printed (answerFields (length s) Done) ++ earlyFrom i (Some (opened s)) (linesOf rest)))
-open-lines (Ok x) i s t rest n old mid new e f p h =
+-- What is printed after a text t is opened, which is s after none.
+pub open-lines : {T E : Type 0} (r : Result T E) (i : ℕ) (none s v t rest : List ℕ) (n : ℕ) (old mid new : List ℕ)
+    → none ≡ [] → v ≡ none ++ s → t ≡ v → n ≡ length s → mid ≡ old ++ printed (answerFields n Done)
+    → made r (λ _. new ≡ mid ++ earlyFrom i (Some (opened t)) (linesOf rest))
+    → made r (λ _. new ≡ old ++ (printed (answerFields (length s) Done) ++ earlyFrom i (Some (opened s)) (linesOf rest)))
+open-lines (Err x) i none s v t rest n old mid new z d e f p h = tt
+open-lines (Ok x) i none s v t rest n old mid new z d e f p h =
+    let all : t ≡ s = e ∙ d ∙ ap (λ (l : List ℕ). l ++ s) z in
     h
     ∙ ap (λ (o : List ℕ). o ++ earlyFrom i (Some (opened t)) (linesOf rest)) p
     ∙ ap (λ (k : ℕ). (old ++ printed (answerFields k Done)) ++ earlyFrom i (Some (opened t)) (linesOf rest)) f
-    ∙ ap (λ (k : List ℕ). (old ++ printed (answerFields (length s) Done)) ++ earlyFrom i (Some (opened k)) (linesOf rest)) e
+    ∙ ap (λ (k : List ℕ). (old ++ printed (answerFields (length s) Done)) ++ earlyFrom i (Some (opened k)) (linesOf rest)) all
     ∙ append-assoc old (printed (answerFields (length s) Done)) (earlyFrom i (Some (opened s)) (linesOf rest))
-open-lines (Err x) i s t rest n old mid new e f p h = tt

@@ -12,12 +12,13 @@ pub returns-in-Break-push : need.returns-in-Break-push
 returns-in-Break-push t c =
     let old = vec-items (c .args .out .now) in
     let mid = vec-items (c .if-n-ge10 .out) in
+    let new = vec-items (c .push .last .self) in
     let k : Kept old mid = elim (c .if-n-ge10 .came) [
       | then-n-ge10·in-Continue-put-number w ↦
           kept-more old (decimal (c .args .n / 10)) mid (ap vec-items (w .out-is) ∙ w .in-Continue-put-number .ensures tt)
       | else-n-ge10 w ↦ kept-same old mid (ap vec-items (w .out-is))
     ] in
-    failed _ _ _ _ (c .from-residual-in-Break-push .ensures .0) (kept-then old mid (vec-items (c .push .last .self)) k (kept-same _ _ (c .in-Break-push .ensures tt .items)))
+    failed (c .from-residual-in-Break-push .result) old (decimal (c .args .n)) new (c .from-residual-in-Break-push .ensures .0) (kept-then old mid new k (kept-same mid new (c .in-Break-push .ensures tt .items)))
 
 pub returns : need.returns
 returns t c =

@@ -5,7 +5,7 @@ use Rattle.std.proofs.shelf.Lists.{length-map, getD-map}
 use Rattle.std.specs.Of.Vec.{vec-items}
 use Rattle.lines.specs.Columns.{columnBytes}
 use Rattle.lines.proofs.Appending.{kept-same, kept-more, kept-then, failed}
-use Rattle.lines.proofs.Printed.{print-more, unprinted-all}
+use Rattle.lines.proofs.Printed.{print-more, print-last}
 use Rattle.lines.proofs.columns.put_line.Needs as need
 
 pub loop-i-holds : need.loop-i-holds
@@ -31,14 +31,12 @@ loop-i-again c =
     let new = vec-items (c .put-column .last .out) in
     let gap = c .in-Continue-put-gap .ensures tt in
     let field = c .in-Continue-put-column .ensures tt in (
-      print-more i (map columnBytes cs) out mid new _ (rw length-map (c .loop-i-test .taken)) (c .loop-i .inv .0) gap
-          (field ∙ ap (λ (l : List ℕ). mid ++ l) (sym (getD-map columnBytes cs i _ [] (c .loop-i-test .taken)))),
+      print-more i (map columnBytes cs) out new _ mid _ (rw length-map (c .loop-i-test .taken)) (c .loop-i .inv .0) gap field
+          (getD-map columnBytes cs i _ [] (c .loop-i-test .taken)),
       kept-then _ out new (c .loop-i .inv .1) (kept-then out mid new (kept-more out _ mid gap) (kept-more mid _ new field)),
     )
 
 pub returns : need.returns
 returns c =
-    let fs = map columnBytes (c .args .columns .now) in
-    c .in-Continue-push .ensures tt .items
-    ∙ ap (λ (l : List ℕ). vec-items (c .loop-i .out) ++ l) (sym (unprinted-all (c .loop-i .i) fs (rw length-map (c .loop-i-test .left))))
-    ∙ c .loop-i .inv .0
+    print-last (c .loop-i .i) (map columnBytes (c .args .columns .now)) (vec-items (c .loop-i .out)) _ _
+    (rw length-map (c .loop-i-test .left)) (c .loop-i .inv .0) (c .in-Continue-push .ensures tt .items)

@@ -1,5 +1,5 @@
 use Rattle.script.proofs.Splitting.{lines-first, lines-last}
-use Rattle.script.proofs.first_line.Needs as need
+use Rattle.script.proofs.input.first_line.Needs as need
 
 pub returns-in-Some : need.returns-in-Some
 returns-in-Some c = record {

@@ -3,7 +3,7 @@ use native.Mathlib.Omega.{arith}
 use lib.ListN.{length}
 use Rattle.std.specs.Of.Vec.{vec-items}
 use Rattle.script.proofs.Rounds.{round, no-rounds, some-left, none-left}
-use Rattle.script.proofs.answer_lines.Needs as need
+use Rattle.script.proofs.answering.answer_lines.Needs as need
 
 pub loop-rest-again : need.loop-rest-again
 loop-rest-again c =

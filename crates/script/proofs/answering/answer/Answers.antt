@@ -4,7 +4,7 @@ use Rattle.std.specs.declared.result.Result.the-variants.{Ok, Err}
 use Rattle.lines.specs.Bytes.{bytesOf}
 use Rattle.lines.specs.Requests.{mapCall, mapRequest}
 use Rattle.script.proofs.Steps.{step-call}
-use Rattle.script.proofs.answer.Needs as need
+use Rattle.script.proofs.answering.answer.Needs as need
 
 pub returns-in-Ok : need.returns-in-Ok
 returns-in-Ok c i =

@@ -6,7 +6,7 @@ use Rattle.std.specs.Of.Vec.{vec-items}
 use Rattle.std.specs.declared.option.Option.the-variants.{Some}
 use Rattle.plain.specs.Script.{linesOf}
 use Rattle.script.specs.Early.{opened, earlyFrom}
-use Rattle.script.proofs.answer_lines.Given as given
+use Rattle.script.proofs.answering.answer_lines.Given as given
 
 abbrev pub Inv-loop-rest : given.InvT-loop-rest
 Inv-loop-rest l =

@@ -1,7 +1,7 @@
 use mathlib.Core.Path.{ap}
 use native.Mathlib.Omega.{arith}
 use Rattle.script.proofs.Steps.{bytes-weigh}
-use Rattle.script.proofs.sum_up_bytes.Needs as need
+use Rattle.script.proofs.answering.sum_up_bytes.Needs as need
 
 pub returns : need.returns
 returns c =
