@@ -150,3 +150,20 @@ inside-end p [] h = refl
 inside-end p (y ∷ xs) h =
     ap (λ (c : Bool). cond c (inside (p - y .length) (map piece-of xs)) (cond (eqb p 0) 0 1)) (le-leb (y .length) p (omega arith))
     ∙ inside-end (p - y .length) xs (omega arith)
+
+pub start-end : (p : ℕ) (xs : List PieceRow) → sizes xs ≤ p → start p (map piece-of xs) ≡ sizes xs
+unfolding start
+start-end p [] h = refl
+start-end p (y ∷ xs) h =
+    ap (λ (c : Bool). cond c (y .length + start (p - y .length) (map piece-of xs)) 0) (le-leb (y .length) p (omega arith))
+    ∙ ap (λ (q : ℕ). y .length + q) (start-end (p - y .length) xs (omega arith))
+
+pub inside-one : (p : ℕ) (g : List Piece) → inside p g ≤ 1
+unfolding inside
+inside-one p [] = omega arith
+inside-one p (x ∷ xs) = go (leb (x .size) p) (eqb p 0) (inside-one (p - x .size) xs)
+  where
+    go : (s z : Bool) → inside (p - x .size) xs ≤ 1 → cond s (inside (p - x .size) xs) (cond z 0 1) ≤ 1
+    go true z ih = ih
+    go false true ih = omega arith
+    go false false ih = omega arith
