@@ -10,10 +10,11 @@ use Rattle.slots.specs.Sides.{pick, flipped, ends, peeled}
 use Rattle.slots.specs.Values.{mean, wt, spine-in}
 use Rattle.slots.specs.Post.{LevelValued, Taken, Given}
 use Rattle.tree.specs.declared.ends.Popped.{Popped}
-use Rattle.tree.specs.Post.{LevelPut, NodeTaken, Made, Shrunk, Parts, Whole, Settled, Refilled, Deepened, Replanted, Planted, Has, Pop, Pops}
+use Rattle.tree.specs.Post.{LevelPut, NodeTaken, Made, Shrunk, Parts, Whole, Settled, Refilled, Deepened, Replanted, Planted, Has, Pop, Pops, PopsFirst}
 use Rattle.slots.proofs.Frames.{same-self, calm-then, off-refl, off-then, off-more, Put, put, put-calm, frame-twig, frame-arm, frame-part, frame, frame-chain}
 use Rattle.slots.proofs.Shapes.{ok-err, ok-same, arm-one, arm-two, arm-three, arm-four, part-none, part-some, tree-empty, tree-single, tree-deep, at-level}
 use Rattle.slots.proofs.Weights.{wt-append, wt-ends}
+use Rattle.slots.proofs.Depth.{few-levels}
 use Rattle.slots.proofs.Ends.{ends-assoc, ends-nil, nil-ends, pick-flipped, sided, by-side, rows-sided, wt-sided, occ-sided, fit-sided, Peeled, peel-arm}
 use Rattle.tree.proofs.Levels.{Leveled, side-done, Unpacked, unpacked}
 
@@ -414,3 +415,9 @@ module _ {R I V : Type 0} {weigh : I → ℕ} {means : List I → V} where
 
     pub pop-no-rest : {rs′ : List (Record R V)} {f′ : Link} {e : Unsound} {r : Result (Option Popped) Unsound} → q ≡ Err e → Pops weigh means rs rs′ f f′ fuel s tr r
     pop-no-rest bad = pop-deep (λ items v N m X fs k In h. absurd (ok-err (In .S .made .ok) bad))
+
+  pub pops-first : {rs rs′ : List (Record R V)} {f f′ : Link} {s : Side} {tr : Tree} {r : Result (Option Popped) Unsound} → Pops weigh means rs rs′ f f′ 16 s tr r → PopsFirst weigh means rs rs′ f f′ s tr r
+  pops-first {rs} p = record {
+    nothing = p .nothing;
+    pops = λ items t fs full h. p .pops items t fs 0 full (record { tree = h .tree; first = h .first; fit = h .fit; chain = h .chain; once = h .once; light = h .light }) (omega (arith, few-levels (mean means items) rs t (h .fit) (h .small)));
+  }

@@ -4,6 +4,7 @@ use Rattle.tree.specs.Words.{_≡_, List, [], _∷_, _++_, _⊎_, ℕ, zero, s
 use Rattle.slots.specs.Ghost.{Twig, Arm, a1, a2, a3, a4, Finger, nil, one, deep, same, occ-list, head-of, none, root, digit-of, part-of, tree-of, rows-twig, rows-arm, rows-part, rows, levels, Full, size, size-part, occ-twig, occ-arm, occ-part, occ, FitTwig, FitArm, FitPart, Fit, Chain, Off, Calm}
 use Rattle.slots.specs.Sides.{pick, ends}
 use Rattle.slots.specs.Values.{mean, wt, value-in, parts-in, node-of}
+use Rattle.slots.specs.Holds.{Holds}
 use Rattle.measures.specs.Law.{weights, heaviest}
 
 module _ {R V : Type 0} where
@@ -146,3 +147,7 @@ module _ {R I V : Type 0} (weigh : I → ℕ) (means : List I → V) where
   pub record Pops (rs rs′ : List (Record R V)) (f f′ : Link) (fuel : ℕ) (side : Side) (tr : Tree) (r : Result (Option Popped) Unsound) : Type 0 where
     pub nothing : tr ≡ Empty → (r ≡ Ok None) × (rs′ ≡ rs) × (f′ ≡ f)
     pub pops : (items : R → List I) (t : Finger R V) (fs : List ℕ) (k : ℕ) → Full t → Has items rs f tr t fs k → levels t ≤ fuel → Pop items rs rs′ f′ side r t fs k
+
+  pub record PopsFirst (rs rs′ : List (Record R V)) (f f′ : Link) (side : Side) (tr : Tree) (r : Result (Option Popped) Unsound) : Type 0 where
+    pub nothing : tr ≡ Empty → (r ≡ Ok None) × (rs′ ≡ rs) × (f′ ≡ f)
+    pub pops : (items : R → List I) (t : Finger R V) (fs : List ℕ) → Full t → Holds weigh means items rs f tr t fs → Pop items rs rs′ f′ side r t fs 0

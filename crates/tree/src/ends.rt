@@ -1,6 +1,6 @@
 // Pushing and popping at either side.
 ghost use mathlib.Core.Path.{_≡_};
-ghost use Rattle.tree.specs.Post.{Pushed, Refilled, Deepened, Pops};
+ghost use Rattle.tree.specs.Post.{Pushed, Refilled, Deepened, Pops, PopsFirst};
 use crate::build::join_ends;
 use crate::build::put_level;
 use crate::build::put_node;
@@ -21,6 +21,9 @@ use slots::records::Record;
 use slots::records::Side;
 use slots::records::Tree;
 use slots::records::Unsound;
+
+// More levels than any tree of sound memory has, also after five pushes.
+pub const FUEL: u8 = 16;
 
 // A tree without its first slot at one side.
 #[derive(Clone, Copy)]
@@ -159,4 +162,16 @@ pub fn pop_down<R: Copy, M: Measure>(
             }))
         }
     }
+}
+
+// The first slot at that side, and the tree without it.
+pub fn pop<R: Copy, M: Measure>(
+    slots: &mut [Record<R, M::Value>],
+    free: &mut Link,
+    side: Side,
+    tree: Tree,
+) -> Result<Option<Popped>, Unsound>
+    ensures { λ r. ⌜ PopsFirst (Item·Weigh .weight) (M·Measure .means) (now (slots .entry)) (now (slots .exit)) (now (free .entry)) (now (free .exit)) side tree r ⌝ }
+{
+    pop_down::<R, M>(slots, free, FUEL, side, tree)
 }

@@ -1,0 +1,5 @@
+use Rattle.concat.specs.Post.{count}
+use Rattle.concat.proofs.bundles.+feed_part.Given as given
+
+abbrev pub μ-feed-part : given.MeasureT-feed-part
+μ-feed-part g l = count (l .part)
