@@ -1,0 +1,4 @@
+pub mod BlockEnds
+pub mod PushedPieces
+pub mod FilledTrees
+pub mod FreshTexts
