@@ -15,7 +15,7 @@ use Rattle.seek.specs.Words.{_≡_, Bool, true, false, List, [], _∷_, _++_, 
 use Rattle.seek.specs.declared.digits.Cut.{Cut}
 use Rattle.seek.specs.Places.{upto, Past, Found, Lands, Finds}
 use Rattle.seek.specs.Post.{cut-of, Passes, TreePassed, Struck, Picked, TwigSearched, DigitSearched, TreeSearched, Searched}
-use Rattle.seek.proofs.Moves.{true-false, was-none, was-some, on, light-mid, light-front, light-back, arm-some, past-none, past-yes, found-in, found-front, lands-then, some-turn, finds-all}
+use Rattle.seek.proofs.Moves.{true-false, was-none, was-some, on, light-mid, light-front, light-back, arm-some, past-none, yes-none, found-in, found-front, lands-then, some-turn, finds-all}
 
 module _ {R I V : Type 0} {means : List I → V} {says : V → Bool} {rs : List (Record R V)} where
   found-leaf : (items : R → List I) (w : List I) (u : Twig R V) (k : ℕ) {i : ℕ} {p : V} → k ≡ 0 → root u ≡ i → FitTwig (mean means items) rs u k → p ≡ means w → says (means (upto items w (rows-twig u))) ≡ true → Found means says items rs w (rows-twig u) p i
@@ -27,12 +27,12 @@ module _ {R I V : Type 0} {means : List I → V} {says : V → Bool} {rs : List 
   found-leaf items w (three j v a b c) (suc k) z e fit at y = absurd (omega arith)
 
 -- the digit of a node
-opened : {R V : Type 0} (mn : List R → V) (rs : List (Record R V)) {height i : ℕ} {ps : Result Digit Unsound} → (height ≡ 0 → ⊥) → ps ≡ parts-in (getD rs i none) → (u : Twig R V) (k : ℕ) → k ≡ height → root u ≡ i → FitTwig mn rs u k
+pub opened : {R V : Type 0} (mn : List R → V) (rs : List (Record R V)) {height i : ℕ} {ps : Result Digit Unsound} → (height ≡ 0 → ⊥) → ps ≡ parts-in (getD rs i none) → (u : Twig R V) (k : ℕ) → k ≡ height → root u ≡ i → FitTwig mn rs u k
     → (A : Arm R V) × (h : ℕ) × (height ≡ suc h) × (rows-arm A ≡ rows-twig u) × (ps ≡ Ok (digit-of A)) × FitArm mn rs A h
 opened mn rs high rd u zero z e fit = absurd (high (sym z))
 opened mn rs high rd u (suc h) z e fit = let o = parted mn rs u h fit in (o .arm, h, sym z, o .text, rd ∙ ap (λ q. parts-in (getD rs q none)) (sym e) ∙ o .reads, o .fit)
 
-no-level : {R V : Type 0} (mn : List R → V) (rs : List (Record R V)) (k : ℕ) {i : ℕ} {sp : Result Spine Unsound} {x : Unsound} → sp ≡ spine-in (getD rs i none) → sp ≡ Err x → (t : Finger R V) → tree-of t ≡ Deep i → Fit mn rs t k → ⊥
+pub no-level : {R V : Type 0} (mn : List R → V) (rs : List (Record R V)) (k : ℕ) {i : ℕ} {sp : Result Spine Unsound} {x : Unsound} → sp ≡ spine-in (getD rs i none) → sp ≡ Err x → (t : Finger R V) → tree-of t ≡ Deep i → Fit mn rs t k → ⊥
 no-level mn rs k rd bad nil e fit = absurd (let z : _≡_ {A = ℕ} 0 1 = cc in omega arith)
 no-level mn rs k rd bad (one u) e fit = absurd (let z : _≡_ {A = ℕ} 0 1 = cc in omega arith)
 no-level mn rs k {i} rd bad (deep j v F m B) e fit = let ji : j ≡ i = cc in ok-err (rd ∙ ap (λ q. spine-in (getD rs q none)) (sym ji) ∙ ap spine-in (fit .0 .is)) bad
@@ -47,11 +47,11 @@ module _ {R I V : Type 0} {weigh : I → ℕ} {means : List I → V} {says : V �
 
     module _ {d : Digit} {p₁ : V} {q : Result (Option Cut) Unsound} (got : ps ≡ Ok d) (pk : Picked weigh means says rs d p p₁ q) where
       -- what is found among the parts of the twig
-      struck-in : (items : R → List I) (w : List I) (u : Twig R V) → root u ≡ i → FitTwig (mean means items) rs u height → weights weigh (upto items w (rows-twig u)) ≤ heaviest → p ≡ means w → says (means (upto items w (rows-twig u))) ≡ true
+      pub struck-in : (items : R → List I) (w : List I) (u : Twig R V) → root u ≡ i → FitTwig (mean means items) rs u height → weights weigh (upto items w (rows-twig u)) ≤ heaviest → p ≡ means w → says (means (upto items w (rows-twig u))) ≡ true
           → (A : Arm R V) × (h : ℕ) × (height ≡ suc h) × (rows-arm A ≡ rows-twig u) × Struck weigh means says items rs w A h p₁ q
       struck-in items w u e fit light at y =
           let o = opened (mean means items) rs high rd u height refl e fit in
-          ⊎-elim (λ h. absurd (arm-some (o .0) (past-yes items w (rows-arm (o .0)) (h .1) (ap (λ l. says (means (upto items w l))) (o .3) ∙ y))))
+          ⊎-elim (λ h. absurd (arm-some (o .0) (yes-none means says items w (rows-arm (o .0)) (h .1 .no) (ap (λ l. says (means (upto items w l))) (o .3) ∙ y))))
           (λ s. (o .0, o .1, o .2, o .3, s))
           (pk .picks items w (o .0) (o .1) (ok-same (o .4) got) (o .5) (subst (λ l. weights weigh (upto items w l) ≤ heaviest) (sym (o .3)) light) at)
 
@@ -66,7 +66,7 @@ module _ {R I V : Type 0} {weigh : I → ℕ} {means : List I → V} {says : V �
             let text : rows-twig u ≡ rows-part (s .L) ++ (rows-twig (s .u) ++ rows-part (s .Q)) = sym (S .3) ∙ s .slit .text in
             let F = D₁ .finds items (upto items w (rows-part (s .L))) (s .u) (sym (ap (λ (c : Cut). c .at) cut-is)) (s .slit .fit-u)
             (light-mid weigh items w (rows-twig u) light (rows-part (s .L)) (rows-twig (s .u)) (rows-part (s .Q)) text) (s .past .place) (s .yes) in
-            (F .0, F .1, found-in items w (rows-twig u) (rows-part (s .L)) (rows-twig (s .u)) (rows-part (s .Q)) text (s .past) (F .2));
+            (F .0, F .1, found-in items {i = F .0} w (rows-twig u) (rows-part (s .L)) (rows-twig (s .u)) (rows-part (s .Q)) text (s .past) (F .2));
       }
 
       pub twig-none-path : {p′ : V} {f : Option Cut} {r : Result ℕ Unsound} → q ≡ Ok f → f ≡ None → TwigSearched weigh means says rs height i p p′ r
@@ -99,7 +99,7 @@ module _ {R I V : Type 0} {weigh : I → ℕ} {means : List I → V} {says : V �
           let cut-is : cut ≡ cut-of (s .L) (s .u) (s .Q) = cc in
           let F = D .finds items (upto items w (rows-part (s .L))) (s .u) (sym (ap (λ (c : Cut). c .at) cut-is)) (s .slit .fit-u)
           (light-mid weigh items w (rows-arm A) light (rows-part (s .L)) (rows-twig (s .u)) (rows-part (s .Q)) (s .slit .text)) (s .past .place) (s .yes) in
-          (F .0, F .1, found-in items w (rows-arm A) (rows-part (s .L)) (rows-twig (s .u)) (rows-part (s .Q)) (s .slit .text) (s .past) (F .2)))
+          (F .0, F .1, found-in items {i = F .0} w (rows-arm A) (rows-part (s .L)) (rows-twig (s .u)) (rows-part (s .Q)) (s .slit .text) (s .past) (F .2)))
           (pk .picks items w A height e fit light at)
 
       pub digit-found : {j : ℕ} → t ≡ Ok j → DigitSearched weigh means says rs height d p p′ (Ok (Some j))
@@ -169,7 +169,7 @@ module _ {R I V : Type 0} {weigh : I → ℕ} {means : List I → V} {says : V �
         in-middle {p′} {y} {r} qy is S = at-middle (λ items w F m B em eb fm fb lo l h f.
             ⊎-elim
             (λ g.
-            ⊎-elim (λ x. absurd (some-turn items w (rows-arm F) (rows m) h (arm-some F) (g .2) (past-yes items (upto items w (rows-arm F)) (rows m) (x .1) (g .2))))
+            ⊎-elim (λ x. absurd (some-turn means says items w (rows-arm F) (rows m) (h .no) (arm-some F) (g .2) (yes-none means says items (upto items w (rows-arm F)) (rows m) (x .1 .no) (g .2))))
             (λ x. inr (x .0, x .1, found-in items w (rows-arm F ++ (rows m ++ rows-arm B)) (rows-arm F) (rows m) (rows-arm B) refl h (x .2)))
             (S .finds items (upto items w (rows-arm F)) m em (subst (λ k. Fit (mean means items) rs m k) (let z : suc height ≡ height + 1 = omega arith in z) fm) (omega arith)
             (light-mid weigh items w (rows-arm F ++ (rows m ++ rows-arm B)) l (rows-arm F) (rows m) (rows-arm B) refl) (g .1 ∙ h .place)))

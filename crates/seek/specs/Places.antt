@@ -8,10 +8,14 @@ abbrev pub upto : {R I : Type 0} → (R → List I) → List I → List R → Li
 upto items w xs = w ++ flat items xs
 
 module _ {R I V : Type 0} (means : List I → V) (says : V → Bool) where
-  -- a place that began at the items w has moved past the rows xs, and the probe is no there, unless there are none
+  -- the probe is no after the rows, unless there are none
+  abbrev pub NotYet : (R → List I) → List I → List R → Type 0
+  NotYet items w xs = (xs ≡ []) ⊎ (says (means (upto items w xs)) ≡ false)
+
+  -- a place that began at the items w has moved past the rows xs
   pub record Past (items : R → List I) (w : List I) (xs : List R) (p : V) : Type 0 where
     pub place : p ≡ means (upto items w xs)
-    pub no : (xs ≡ []) ⊎ (says (means (upto items w xs)) ≡ false)
+    pub no : NotYet items w xs
 
   -- the probe turns yes at the row of the leaf in slot i, and the place is before it
   pub record Found (items : R → List I) (rs : List (Record R V)) (w : List I) (T : List R) (p : V) (i : ℕ) : Type 0 where
@@ -24,6 +28,16 @@ module _ {R I V : Type 0} (means : List I → V) (says : V → Bool) where
     pub yes : says (means (upto items w (xs ++ (row ∷ [])))) ≡ true
     pub at : At rs i (Leaf row value)
     pub right : value ≡ mean means items (row ∷ [])
+
+  -- the probe turns yes at a row of T, and X is said of the rows before it and after it
+  pub record Turns (items : R → List I) (w : List I) (T : List R) (X : List R → List R → Type 0) : Type 0 where
+    pub row : R
+    pub xs : List R
+    pub ys : List R
+    pub text : T ≡ xs ++ (row ∷ ys)
+    pub no : NotYet items w xs
+    pub yes : says (means (upto items w (xs ++ (row ∷ [])))) ≡ true
+    pub rest : X xs ys
 
   -- among the rows T the probe turns yes at a leaf, or the place moves past them all
   abbrev pub Lands : (R → List I) → List (Record R V) → List I → List R → V → Result (Option ℕ) Unsound → Type 0
