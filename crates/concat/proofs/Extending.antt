@@ -11,25 +11,11 @@ use Rattle.slots.specs.Sides.{pick, flipped, ends, peeled}
 use Rattle.slots.specs.Values.{mean, wt}
 use Rattle.tree.specs.Post.{fill, load, Made, Ready, Push, Pushed}
 use Rattle.concat.specs.declared.bundles.Batch.{Batch}
-use Rattle.concat.specs.Post.{count, times, Stock, Coming, Fed, FedPart, Nodes, Finished, Bundled, Beyond, Extend, Extended, ExtendPast, ExtendedPast}
+use Rattle.concat.specs.Post.{times, Stock, Coming, Fed, FedPart, Nodes, Finished, Bundled, Beyond, Extend, Extended, ExtendPast, ExtendedPast}
 use Rattle.slots.proofs.Frames.{occ-list-append, calm-then, off-refl, off-then, off-more, frame-twig, frame-arm, frame-part}
 use Rattle.slots.proofs.Shapes.{ok-err, ok-same, part-none, part-some}
 use Rattle.slots.proofs.Weights.{wt-append, wt-ends, wt-text}
 use Rattle.slots.proofs.Ends.{ends-assoc, nil-ends, ends-flipped, size-one, size-four, part-four, Peeled, peel-arm}
-
--- one slot less
-pub count-peeled : (s : Side) (d : Digit) {o : Peel} → o ≡ peeled s d → count (o .rest) < count (Some d)
-count-peeled s d is = omega (arith, ap (λ (q : Peel). count (q .rest)) is, go s d)
-  where
-    go : (s : Side) (d : Digit) → count (peeled s d .rest) < count (Some d)
-    go Front (One a) = omega arith
-    go Front (Two a b) = omega arith
-    go Front (Three a b c) = omega arith
-    go Front (Four a b c d) = omega arith
-    go Back (One a) = omega arith
-    go Back (Two a b) = omega arith
-    go Back (Three a b c) = omega arith
-    go Back (Four a b c d) = omega arith
 
 times-four : (r x : ℕ) → r ≤ 4 → times r x ≤ 4 * x
 times-four zero x le = omega arith

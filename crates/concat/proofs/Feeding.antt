@@ -12,7 +12,7 @@ use Rattle.slots.specs.Sides.{grown, peeled}
 use Rattle.slots.specs.Values.{mean, wt}
 use Rattle.tree.specs.Post.{NodePut}
 use Rattle.concat.specs.declared.bundles.Batch.{Batch}
-use Rattle.concat.specs.Post.{added, count, Stock, Coming, Fed, FedOne, FedPart, Nodes, Finished}
+use Rattle.concat.specs.Post.{added, Stock, Coming, Fed, FedOne, FedPart, Nodes, Finished}
 use Rattle.slots.proofs.Frames.{occ-list-append, calm-then, off-refl, off-then, off-more, frame-twig, frame-arm, frame-part, frame-chain}
 use Rattle.slots.proofs.Shapes.{ok-err, ok-same, arm-four, part-none, part-some}
 use Rattle.slots.proofs.Weights.{wt-append, wt-text}

@@ -1,5 +1,5 @@
 -- What joining trees promises.
-use Rattle.tree.specs.Words.{_≡_, List, [], _∷_, _++_, _⊎_, ℕ, zero, suc, _+_, _-_, _*_, _≤_, _<_, length, getD, Option, None, Some, Result, Ok, Err, Unsound, unsound, Link, Digit, One, Two, Three, Four, Tree, Empty, Record, Side, Back, Grown, Room, Over}
+use Rattle.tree.specs.Words.{_≡_, List, [], _∷_, _++_, _⊎_, ℕ, zero, suc, _+_, _-_, _*_, _≤_, _<_, length, getD, Option, None, Some, Result, Ok, Err, Unsound, unsound, Link, Digit, One, Tree, Empty, Record, Side, Back, Grown, Room, Over}
 use Rattle.slots.specs.Ghost.{Twig, Arm, a1, Finger, nil, occ-list, head-of, none, root, digit-of, part-of, tree-of, rows-twig, rows-arm, rows-part, rows, levels, size, size-part, occ-twig, occ-arm, occ-part, occ, FitTwig, FitArm, FitPart, Fit, Chain, Off, Calm}
 use Rattle.slots.specs.Sides.{pick, ends, grown}
 use Rattle.slots.specs.Holds.{Beside}
@@ -16,14 +16,6 @@ roomy (Over keep parts) = Err unsound
 abbrev pub added : Option Digit → ℕ → Result (Option Digit) Unsound
 added None x = Ok (Some (One x))
 added (Some d) x = roomy (grown Back d x)
-
--- how many slots
-abbrev pub count : Option Digit → ℕ
-count None = 0
-count (Some (One a)) = 1
-count (Some (Two a b)) = 2
-count (Some (Three a b c)) = 3
-count (Some (Four a b c d)) = 4
 
 abbrev pub times : ℕ → ℕ → ℕ
 times zero x = 0

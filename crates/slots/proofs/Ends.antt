@@ -3,9 +3,9 @@ use mathlib.Core.Path.{refl, sym, ap, subst, _∙_}
 use mathlib.Core.List.{append-assoc}
 use native.Mathlib.Omega.{arith}
 use Rattle.std.proofs.shelf.Lists.{append-nil}
-use Rattle.slots.specs.Words.{_≡_, List, [], _∷_, _++_, ℕ, suc, _+_, _≤_, _<_, length, getD, Option, None, Some, Result, Ok, Err, Digit, Side, Front, Back, Grown, Room, Over, Peel, Record}
+use Rattle.slots.specs.Words.{_≡_, List, [], _∷_, _++_, ℕ, suc, _+_, _≤_, _<_, length, getD, Option, None, Some, Result, Ok, Err, Digit, One, Two, Three, Four, Side, Front, Back, Grown, Room, Over, Peel, Record}
 use Rattle.slots.specs.Ghost.{Twig, leaf, two, three, Arm, a1, a2, a3, a4, Finger, nil, one, deep, same, none, root, digit-of, part-of, tree-of, rows-twig, rows-arm, rows-part, rows, size, size-part, occ-twig, occ-arm, occ-part, occ, At, FitTwig, FitArm, FitPart, Fit}
-use Rattle.slots.specs.Sides.{pick, flipped, ends, grown, peeled}
+use Rattle.slots.specs.Sides.{pick, flipped, ends, grown, peeled, count}
 use Rattle.slots.specs.Values.{wt, node-of, parts-in}
 use Rattle.slots.proofs.Weights.{wt-append, wt-ends}
 
@@ -29,6 +29,27 @@ module _ {A : Type 0} where
 pub pick-flipped : {A : Type 0} (s : Side) (a b : A) → pick (flipped s) a b ≡ pick s b a
 pick-flipped Front a b = refl
 pick-flipped Back a b = refl
+
+-- one slot less
+pub count-peeled : (s : Side) (d : Digit) {o : Peel} → o ≡ peeled s d → count (o .rest) < count (Some d)
+count-peeled s d is = omega (arith, ap (λ (q : Peel). count (q .rest)) is, go s d)
+  where
+    go : (s : Side) (d : Digit) → count (peeled s d .rest) < count (Some d)
+    go Front (One a) = omega arith
+    go Front (Two a b) = omega arith
+    go Front (Three a b c) = omega arith
+    go Front (Four a b c d) = omega arith
+    go Back (One a) = omega arith
+    go Back (Two a b) = omega arith
+    go Back (Three a b c) = omega arith
+    go Back (Four a b c d) = omega arith
+
+pub count-four : (p : Option Digit) → count p ≤ 4
+count-four None = omega arith
+count-four (Some (One a)) = omega arith
+count-four (Some (Two a b)) = omega arith
+count-four (Some (Three a b c)) = omega arith
+count-four (Some (Four a b c d)) = omega arith
 
 module _ {R V : Type 0} where
   -- a level whose digit on side s is N, and on the other X

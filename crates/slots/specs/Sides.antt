@@ -36,3 +36,11 @@ peeled Back (One a) = record { slot = a; rest = None }
 peeled Back (Two a b) = record { slot = b; rest = Some (One a) }
 peeled Back (Three a b c) = record { slot = c; rest = Some (Two a b) }
 peeled Back (Four a b c d) = record { slot = d; rest = Some (Three a b c) }
+
+-- how many slots
+abbrev pub count : Option Digit → ℕ
+count None = 0
+count (Some (One a)) = 1
+count (Some (Two a b)) = 2
+count (Some (Three a b c)) = 3
+count (Some (Four a b c d)) = 4

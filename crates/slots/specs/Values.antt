@@ -42,6 +42,14 @@ module _ {R V : Type 0} where
   parts-in (Node3 a b c v) = Ok (Three a b c)
   parts-in (Level f m b v) = Err unsound
 
+  -- what lies below a leaf or a node: nothing, or its parts
+  abbrev pub below-in : Record R V → Result (Option Digit) Unsound
+  below-in (Free n) = Err unsound
+  below-in (Leaf row v) = Ok None
+  below-in (Node2 a b v) = Ok (Some (Two a b))
+  below-in (Node3 a b c v) = Ok (Some (Three a b c))
+  below-in (Level f m b v) = Err unsound
+
   abbrev pub spine-in : Record R V → Result Spine Unsound
   spine-in (Free n) = Err unsound
   spine-in (Leaf row v) = Err unsound

@@ -3,7 +3,7 @@ ghost use mathlib.Core.Path.{_≡_};
 ghost use Prim.Native.Nat.{ℕ, _+_, _≤_, _<_};
 ghost use lib.ListN.{length, getD, set};
 ghost use Rattle.slots.specs.Ghost.{none};
-ghost use Rattle.slots.specs.Values.{row-in, parts-in, spine-in};
+ghost use Rattle.slots.specs.Values.{row-in, parts-in, below-in, spine-in};
 ghost use Rattle.slots.specs.Post.{watched as «watched-of», LaidOut, Taken, Wrote, Given, LeafPut};
 use crate::records::Digit;
 use crate::records::Link;
@@ -128,6 +128,21 @@ pub fn parts_at<R: Copy, V: Copy>(slots: &[Record<R, V>], i: u16) -> Result<Digi
     match &slots[i as usize] {
         Record::Node2 { a, b, .. } => Ok(Digit::Two(*a, *b)),
         Record::Node3 { a, b, c, .. } => Ok(Digit::Three(*a, *b, *c)),
+        _ => Err(Unsound),
+    }
+}
+
+// Nothing below a leaf, the slots below a node.
+pub fn below_at<R: Copy, V: Copy>(slots: &[Record<R, V>], i: u16) -> Result<Option<Digit>, Unsound>
+    ensures { λ r. ⌜ r ≡ below-in (getD (now (slots .entry)) i none) ⌝ }
+{
+    if i as usize >= slots.len() {
+        return Err(Unsound);
+    }
+    match &slots[i as usize] {
+        Record::Leaf { .. } => Ok(None),
+        Record::Node2 { a, b, .. } => Ok(Some(Digit::Two(*a, *b))),
+        Record::Node3 { a, b, c, .. } => Ok(Some(Digit::Three(*a, *b, *c))),
         _ => Err(Unsound),
     }
 }

@@ -1,4 +1,4 @@
-use Rattle.concat.specs.Post.{count}
+use Rattle.slots.specs.Sides.{count}
 use Rattle.concat.proofs.bundles.+feed_part.Given as given
 
 abbrev pub μ-feed-part : given.MeasureT-feed-part

@@ -2,8 +2,9 @@ use mathlib.Core.Path.{ap}
 use native.Mathlib.Omega.{arith}
 use Prim.Native.Nat.{_<_}
 use borrow.Author.Needs.{needs}
-use Rattle.concat.specs.Post.{count}
-use Rattle.concat.proofs.Extending.{count-peeled, extend-none, extend-more, extend-no-push}
+use Rattle.slots.specs.Sides.{count}
+use Rattle.slots.proofs.Ends.{count-peeled}
+use Rattle.concat.proofs.Extending.{extend-none, extend-more, extend-no-push}
 use Rattle.concat.proofs.joins.+extend_down.Needs as need
 
 pub returns-in-None : need.returns-in-None

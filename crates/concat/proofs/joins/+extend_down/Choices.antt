@@ -1,4 +1,4 @@
-use Rattle.concat.specs.Post.{count}
+use Rattle.slots.specs.Sides.{count}
 use Rattle.concat.proofs.joins.+extend_down.Given as given
 
 abbrev pub μ-extend-down : given.MeasureT-extend-down
