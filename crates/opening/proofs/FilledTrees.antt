@@ -29,6 +29,17 @@ module _ {S V : Type 0} (means : List ℕ → V) (bytes : S → List ℕ) (capac
     pub same-bytes : bytes s₁ ≡ bytes s
     pub same-capacity : capacity s₁ ≡ capacity s
 
+built-as : {V : Type 0} {means : List ℕ → V} {B B′ : List ℕ} {rs rs₁ rs₂ : List (Record PieceRow V)} {f : Link} {r : Result Tree Unsound} {gs gs′ : List Piece}
+    → Built means B rs₁ rs₂ f r gs → B ≡ B′ → length rs₁ ≡ length rs → gs ≡ gs′ → Built means B′ rs rs₂ f r gs′
+built-as {means = means} {rs₂ = rs₂} {f = f} Z same len more = record {
+  t = Z .t;
+  fs = Z .fs;
+  ok = Z .ok;
+  pieces-are = Z .pieces-are ∙ more;
+  holding = subst (λ (B : List ℕ). Holding means B rs₂ f (tree-of (Z .t)) (Z .t) (Z .fs)) same (Z .holding);
+  len = Z .len ∙ len;
+}
+
 module _ {S V : Type 0} {means : List ℕ → V} {bytes : S → List ℕ} {capacity reads : S → ℕ} {s : S} {rs : List (Record PieceRow V)} {f : Link} where
   pub filling-none : reads s < 2 ^ 64 → Filling means bytes capacity reads s s rs rs f f Empty 0
   filling-none stops = record {
@@ -81,16 +92,8 @@ module _ {S V : Type 0} {means : List ℕ → V} {bytes : S → List ℕ} {capac
       grown : (fs : List ℕ) → Fillable means bytes capacity reads s rs f fs → Built means (bytes s) rs rs₂ f₂ r (first (min (256 * (q + 1)) (length (bytes s))))
       grown fs Y =
           let A = F .built fs Y in
-          let gs : List Piece = map piece-of (rows (A .t)) in
-          let Z = P .pushes (A .t) (A .fs) (held fs Y) good (omega (arith, many fs Y, A .len, Y .room)) in
-          record {
-            t = Z .t;
-            fs = Z .fs;
-            ok = Z .ok;
-            pieces-are = Z .pieces-are ∙ next-piece (length (bytes s)) q m gs (omega arith) (omega arith) (A .pieces-are);
-            holding = subst (λ (B : List ℕ). Holding means B rs₂ f₂ (tree-of (Z .t)) (Z .t) (Z .fs)) (F .same-bytes) (Z .holding);
-            len = Z .len ∙ A .len;
-          }
+          built-as (P .pushes (A .t) (A .fs) (held fs Y) good (omega (arith, many fs Y, A .len, Y .room))) (F .same-bytes) (A .len)
+          (next-piece (length (bytes s)) q m (map piece-of (rows (A .t))) (omega arith) (omega arith) (A .pieces-are))
 
       counted : (fs : List ℕ) → Fillable means bytes capacity reads s rs f fs → reads s₂ ≡ summed (reads s) (min (256 * (q + 1)) (length (bytes s)))
       counted fs Y = omega (arith, P .counts good, F .counts fs Y)

@@ -202,5 +202,5 @@ module _ {A S : Type 0} {am : List ℕ → A} {bytes : S → List ℕ} {capacity
           same-capacity = F .same-capacity;
           few-slots = λ few. absurd (too-few hu hv few);
           many-bytes = λ _ _ lt. absurd (omega arith);
-          within = λ _ _ _ _ _. (head, refl);
+          within = λ _ _ _ wr _. (head, refl, F .counts (counting 0 (length rs)) (fillable wr));
         }

@@ -19,7 +19,7 @@ pub const BLOCK: u32 = 256;
 const FUEL: u8 = 16;
 
 // One piece more at the back, measured from the store.
-pub fn push_piece<S: Store, M: Measure<Item = u8>>(
+fn push_piece<S: Store, M: Measure<Item = u8>>(
     slots: &mut [Record<PieceRow, M::Value>],
     free: &mut Link,
     store: &mut S,

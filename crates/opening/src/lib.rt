@@ -18,9 +18,9 @@ use slots::arena::lay_out;
 use slots::records::Tree;
 use stores::Store;
 
-pub mod filling;
+mod filling;
 
-// Whatever the slots held before. The slices are those that are watched: at most 8,316 slots each.
+// The slots may have held anything. Of each slice only the watched slots are lent: at most 8,316.
 pub fn open<S: Store, A: Measure<Item = u8>>(
     slots: &mut [TextRecord<A::Value>],
     marks: &mut [MarkRecord],
