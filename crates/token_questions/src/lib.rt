@@ -1,0 +1,1 @@
+// Questions on the tokens of a text, by its head.
