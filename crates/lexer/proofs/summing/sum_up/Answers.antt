@@ -1,6 +1,6 @@
 use mathlib.Core.Path.{ap, _∙_}
 use Rattle.lexer.specs.Summing.{summed}
-use Rattle.lexer.proofs.Rows.{summed-by, summed-whole}
+use Rattle.lexer.proofs.WholeText.{summed-by, summed-whole}
 use Rattle.lexer.proofs.summing.sum_up.Needs as need
 
 pub returns : need.returns

@@ -1,7 +1,8 @@
 use mathlib.Core.Path.{refl, sym, subst}
 use native.Mathlib.Omega.{arith}
 use Rattle.lexer.specs.Reading.{Whole}
-use Rattle.lexer.proofs.Rows.{row-at, whole-read}
+use Rattle.lexer.proofs.RowValues.{row-at}
+use Rattle.lexer.proofs.WholeText.{whole-read}
 use Rattle.lexer.proofs.tokens.whole.Needs as need
 
 pub returns : need.returns

@@ -1,6 +1,6 @@
 use native.Mathlib.Omega.{arith}
 use Rattle.std.proofs.shelf.Ways.{tells}
-use Rattle.lexer.proofs.Rows.{strays-grow}
+use Rattle.lexer.proofs.RowValues.{strays-grow}
 use Rattle.lexer.proofs.probes.StraysReachedProbe.the-impl.Needs as need
 
 pub keeps-law : need.keeps-law

@@ -1,6 +1,6 @@
 use native.Mathlib.Omega.{arith}
 use Rattle.std.proofs.shelf.Ways.{tells}
-use Rattle.lexer.proofs.Rows.{tokens-grow}
+use Rattle.lexer.proofs.RowValues.{tokens-grow}
 use Rattle.lexer.proofs.probes.TokensBegunProbe.the-impl.Needs as need
 
 pub keeps-law : need.keeps-law

@@ -4,7 +4,7 @@ use mir.Val.{boolByte}
 use Prim.Native.Nat.{ℕ}
 use native.Mathlib.Omega.{arith}
 use Rattle.std.proofs.shelf.Ways.{tells}
-use Rattle.lexer.proofs.Rows.{and-byte}
+use Rattle.lexer.proofs.RowJoins.{and-byte}
 use Rattle.lexer.proofs.tokens.TokenRow.and_byte.Needs as need
 use Rattle.lexer.proofs.tokens.TokenRow.and_byte.Needs.{in-6, in-7, in-7-2, in-rest}
 

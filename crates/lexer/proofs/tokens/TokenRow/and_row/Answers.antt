@@ -1,4 +1,4 @@
-use Rattle.lexer.proofs.Rows.{and-row}
+use Rattle.lexer.proofs.RowJoins.{and-row}
 use Rattle.lexer.proofs.tokens.TokenRow.and_row.Needs as need
 
 pub returns : need.returns

@@ -6,7 +6,8 @@ use lib.ListN.{length, getD, length-set, length-append}
 use Rattle.measures.specs.Law.{heaviest}
 use Rattle.measures.proofs.Weights.{weights-bytes}
 use Rattle.lexer.specs.Reading.{readFrom, reading}
-use Rattle.lexer.proofs.Rows.{start, row-read, rows-more, rows-after, rows-all}
+use Rattle.lexer.proofs.RowSteps.{start}
+use Rattle.lexer.proofs.RowValues.{row-read, rows-more, rows-after, rows-all}
 use Rattle.lexer.proofs.tokens.TokensMeasure.add.Needs as need
 
 pub loop-s-again : need.loop-s-again

@@ -3,7 +3,7 @@ use mathlib.Core.Path.{_≡_, _∙_}
 use mathlib.Core.List.{[]}
 use lib.ListN.{length-set}
 use Rattle.lexer.specs.Reading.{readFrom}
-use Rattle.lexer.proofs.Rows.{rows-more, rows-all}
+use Rattle.lexer.proofs.RowValues.{rows-more, rows-all}
 use Rattle.lexer.proofs.tokens.TokensMeasure.empty.Needs as need
 
 pub loop-s-again : need.loop-s-again

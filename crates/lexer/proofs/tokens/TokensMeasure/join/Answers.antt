@@ -7,7 +7,8 @@ use Rattle.measures.specs.Law.{heaviest}
 use Rattle.measures.proofs.Weights.{weights-bytes}
 use Rattle.lexer.specs.Reading.{readFrom, reading, rowAt}
 use Rattle.lexer.specs.declared.tokens.TokenRow.{TokenRow}
-use Rattle.lexer.proofs.Rows.{start, row-read, row-next, rows-more, rows-all}
+use Rattle.lexer.proofs.RowSteps.{start}
+use Rattle.lexer.proofs.RowValues.{row-read, row-next, rows-more, rows-all}
 use Rattle.lexer.proofs.tokens.TokensMeasure.join.Needs as need
 
 pub loop-s-again : need.loop-s-again

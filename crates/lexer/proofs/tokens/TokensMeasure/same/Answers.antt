@@ -3,7 +3,7 @@ use mathlib.Core.Path.{_≡_, refl, sym, _∙_}
 use lib.ListN.{getD}
 use borrow.Author.Count.{below-more}
 use Rattle.std.proofs.shelf.Lists.{ext-getD}
-use Rattle.lexer.proofs.Rows.{start}
+use Rattle.lexer.proofs.RowSteps.{start}
 use Rattle.lexer.proofs.tokens.TokensMeasure.same.Needs as need
 
 pub loop-s-again : need.loop-s-again

@@ -1,7 +1,7 @@
 use mathlib.Core.Path.{_≡_}
 use Prim.Native.Nat.{ℕ, _<_}
 use lib.ListN.{getD}
-use Rattle.lexer.proofs.Rows.{start}
+use Rattle.lexer.proofs.RowSteps.{start}
 use Rattle.lexer.proofs.tokens.TokensMeasure.same.Given as given
 
 abbrev pub Inv-loop-s : given.InvT-loop-s
