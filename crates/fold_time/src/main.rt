@@ -1,4 +1,4 @@
-// How long it takes to measure 2,048 bytes, one after another: nanoseconds per byte go to standard error.
+// How long it takes to measure 2,048 bytes, one after another: the least of 500 turns goes to standard error.
 use lexer::tokens::Tokens;
 use lexer::tokens::TokensMeasure;
 use measures::ByteWeigh;
@@ -24,20 +24,26 @@ fn text() -> [u8; 2048] {
 
 fn main(rt: LibcRuntime) -> io::Result<()> {
     let bytes = text();
-    let start = Instant::now(&rt)?;
-    let mut tokens = 0u32;
-    for turn in 0..1000usize {
-        let value = measured::<Pair<Pair<Totals, LongestLine>, Tokens>>(&bytes[turn % 64..]);
-        tokens = tokens.wrapping_add(value.right[turn % 13].tokens);
+    let mut value = measured::<Pair<Pair<Totals, LongestLine>, Tokens>>(&bytes);
+    let mut least = u128::MAX;
+    for _ in 0..500 {
+        let start = Instant::now(&rt)?;
+        value = measured::<Pair<Pair<Totals, LongestLine>, Tokens>>(&bytes);
+        least = least.min(start.elapsed(&rt)?.as_nanos());
     }
-    let spent = start.elapsed(&rt)?;
-    eprintln!(rt, "{} ns per byte, {tokens}", spent.as_nanos() / 2_016_000)?;
-    let value = measured::<Pair<Pair<Totals, LongestLine>, Tokens>>(&bytes);
+    eprintln!(rt, "{} ns per byte", least / 2048)?;
+    let totals = value.left.left;
     let row = value.right[0];
-    let longest = value.left.right.longest();
     println!(
         rt,
-        "{} {} {longest} {} {} {} {}",
-        value.left.left.bytes, value.left.left.feeds, row.state, row.tokens, row.strays, row.unmet
+        "bytes {}, line feeds {}, longest line {}",
+        totals.bytes,
+        totals.feeds,
+        value.left.right.longest()
+    )?;
+    println!(
+        rt,
+        "state {}, tokens {}, strays {}, unmet {}",
+        row.state, row.tokens, row.strays, row.unmet
     )
 }
