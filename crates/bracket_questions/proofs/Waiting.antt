@@ -205,17 +205,17 @@ module _ (xs : List ℕ) (b : ℕ) (ys : List ℕ) (p : ℕ) (at-p : p ≡ lengt
   pub no-bracket : eqb led 6 ≡ false → eqb led 7 ≡ false → bracketAt (xs ++ (b ∷ ys)) p ≡ None
   no-bracket e f =
       ap (mapped (against (xs ++ (b ∷ ys)) p)) (
-        parted
-        ∙ ap₂ (λ (r : List Settled) (W : List ℕ). find (touches p) (r ++ bracketsFrom led (suc p) W ys)) (quiet-settled led p here f) (quiet-waiting led p here e f)
-        ∙ brackets-miss p led (suc p) here ys missed (inr (omega arith))
+      parted
+      ∙ ap₂ (λ (r : List Settled) (W : List ℕ). find (touches p) (r ++ bracketsFrom led (suc p) W ys)) (quiet-settled led p here f) (quiet-waiting led p here e f)
+      ∙ brackets-miss p led (suc p) here ys missed (inr (omega arith))
       )
 
   pub stray-close : led ≡ 7 → here ≡ [] → bracketAt (xs ++ (b ∷ ys)) p ≡ Some Alone
   stray-close shut none =
       let rest = bracketsFrom led (suc p) (waiting led p here) ys in
       ap (mapped (against (xs ++ (b ∷ ys)) p)) (
-        parted ∙ ap₂ (λ (q : ℕ) (W : List ℕ). find (touches p) (settled q p W ++ rest)) shut none
-        ∙ cond-true (eqb p p) (Some (stray p)) (find (touches p) rest) (eq-eqb p p refl)
+      parted ∙ ap₂ (λ (q : ℕ) (W : List ℕ). find (touches p) (settled q p W ++ rest)) shut none
+      ∙ cond-true (eqb p p) (Some (stray p)) (find (touches p) rest) (eq-eqb p p refl)
       )
 
   pub paired-close : (o : ℕ) → led ≡ 7 → at here 0 ≡ Some o
@@ -229,8 +229,8 @@ module _ (xs : List ℕ) (b : ℕ) (ys : List ℕ) (p : ℕ) (at-p : p ≡ lengt
           let rest = bracketsFrom led (suc p) (waiting led p here) ys in
           let same : w ≡ o = cc in
           ap (mapped (against (xs ++ (b ∷ ys)) p)) (
-            parted ∙ ap₂ (λ (q : ℕ) (V : List ℕ). find (touches p) (settled q p V ++ rest)) shut e
-            ∙ cond-true (eqb w p || eqb p p) (Some (pair w p)) (find (touches p) rest) (or-right (eqb w p) (eqb p p) (eq-eqb p p refl))
+          parted ∙ ap₂ (λ (q : ℕ) (V : List ℕ). find (touches p) (settled q p V ++ rest)) shut e
+          ∙ cond-true (eqb w p || eqb p p) (Some (pair w p)) (find (touches p) rest) (or-right (eqb w p) (eqb p p) (eq-eqb p p refl))
           )
           ∙ ap (λ (q : ℕ). Some (Paired q (cond (fitting (getD (xs ++ (b ∷ ys)) w 0) (getD (xs ++ (b ∷ ys)) p 0)) Fits Crossed))) (cond-false (eqb w p) p w (m .0))
           ∙ ap (λ (q : ℕ). Some (Paired q (cond (fitting (getD (xs ++ (b ∷ ys)) q 0) (getD (xs ++ (b ∷ ys)) p 0)) Fits Crossed))) same

@@ -37,7 +37,7 @@ module _ {A : Type 0} (am : List ℕ → A) (B : List ℕ) (p : ℕ) where
   past-no xs g early = ⊎-elim (λ e. omega (arith, ap sizes e)) (λ f. omega (arith, ltb-false p (length (flat (bytes-of B) xs)) f, flat-size B xs g)) early
 
   -- the row found is the one in which p lies
-  pub falls-at : (T xs : List PieceRow) (x : PieceRow) (ys : List PieceRow) → AllGood B T → T ≡ xs ++ (x ∷ ys)
+  unfoldable pub falls-at : (T xs : List PieceRow) (x : PieceRow) (ys : List PieceRow) → AllGood B T → T ≡ xs ++ (x ∷ ys)
       → (xs ≡ []) ⊎ (past p (textMean am B xs) ≡ false) → past p (textMean am B (xs ++ (x ∷ []))) ≡ true → Falls p T
   falls-at T xs x ys g text early late =
       let good : AllGood B (xs ++ (x ∷ ys)) = subst (AllGood B) text g in

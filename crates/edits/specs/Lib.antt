@@ -1,3 +1,5 @@
 pub mod Edges
 pub mod Counts
 pub mod Doors
+pub mod Parting
+pub mod Inserting

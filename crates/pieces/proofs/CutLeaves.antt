@@ -13,7 +13,7 @@ use Rattle.std.specs.declared.option.Option.the-variants.{None, Some}
 use Rattle.std.specs.declared.result.Result.{Result}
 use Rattle.std.specs.declared.result.Result.the-variants.{Ok, Err}
 use Rattle.stores.specs.Stores.{largest}
-use Rattle.slots.specs.Ghost.{Arm, a1, leaf, same, occ-list, none, head-of, part-of, rows-part, occ-part, At, FitPart, Chain, Calm, Off}
+use Rattle.slots.specs.Ghost.{Arm, a1, leaf, same, occ-list, none, head-of, part-of, rows-part, size-part, occ-part, At, FitPart, Chain, Calm, Off}
 use Rattle.slots.specs.Values.{mean, row-in}
 use Rattle.slots.specs.Post.{Given, LeafPut}
 use Rattle.slots.specs.declared.records.Unsound.{Unsound}
@@ -37,6 +37,7 @@ pub record PartMade {V : Type 0} (means : List ℕ → V) (B : List ℕ) (rs rs�
   pub ok : r ≡ Ok (part-of Q)
   pub first : head-of fs′ ≡ f′
   pub rows-are : rows-part Q ≡ ys
+  pub small : size-part Q ≤ 1
   pub fit : FitPart (mean means (bytes-of B)) rs′ Q 0
   pub chain : Chain rs′ fs′
   pub kept : (q : ℕ) → occ-part Q q + occ-list fs′ q ≡ occ-list fs q
@@ -90,6 +91,7 @@ module _ {S V : Type 0} {means : List ℕ → V} {bytes : S → List ℕ} {capac
         ok = o .0;
         first = first ∙ sym (o .2);
         rows-are = sym (z .1);
+        small = omega arith;
         fit = tt;
         chain = subst (λ q. Chain q fs) (sym (o .1)) chain;
         kept = λ q. omega arith;
@@ -109,6 +111,7 @@ module _ {S V : Type 0} {means : List ℕ → V} {bytes : S → List ℕ} {capac
         ok = o .0;
         first = sym (o .1);
         rows-are = sym (g .1);
+        small = omega arith;
         fit = (p .at, ap means (sym (append-nil-bytes (bytes-of (bytes s) x))));
         chain = frame-chain (p .off) ns (λ q. omega (arith, once q)) (chain .1);
         kept = λ q. refl;
@@ -130,10 +133,10 @@ module _ {S V : Type 0} {means : List ℕ → V} {bytes : S → List ℕ} {capac
   -- nothing is cut
   module _ {s : S} {rs : List (Record PieceRow V)} {f : Link} {i k j : ℕ} where
     uncut : {r : Result Ends Unsound} (x : PieceRow) (v : V) (fs : List ℕ) (F G : Option (Arm PieceRow V)) → Cuttable means bytes capacity reads s rs f i k j x v fs
-        → r ≡ Ok (record { front = part-of F; back = part-of G }) → rows-part F ≡ front-of k x → rows-part G ≡ rest-of j x
+        → r ≡ Ok (record { front = part-of F; back = part-of G }) → rows-part F ≡ front-of k x → rows-part G ≡ rest-of j x → size-part F ≤ 1 → size-part G ≤ 1
         → FitPart (mean means (bytes-of (bytes s))) rs F 0 → FitPart (mean means (bytes-of (bytes s))) rs G 0
         → ((q : ℕ) → occ-part F q + occ-part G q ≡ same i q) → Cut means bytes capacity reads s rs rs f i k j r x fs
-    uncut x v fs F G C ok rf rg ff fg occ = record {
+    uncut x v fs F G C ok rf rg sf sg ff fg occ = record {
       F = F;
       G = G;
       fs′ = fs;
@@ -142,11 +145,14 @@ module _ {S V : Type 0} {means : List ℕ → V} {bytes : S → List ℕ} {capac
       first = C .first;
       rows-front = rf;
       rows-back = rg;
+      small-front = sf;
+      small-back = sg;
       fit-front = ff;
       fit-back = fg;
       chain = C .chain;
       kept = λ q. omega (arith, occ q);
       frame = off-refl;
+      spent = omega arith;
       few = omega arith;
       fresh = λ q z. inr refl;
     }
@@ -160,7 +166,7 @@ module _ {S V : Type 0} {means : List ℕ → V} {bytes : S → List ℕ} {capac
           ap (λ (b : Bool). cond b [] (row (x .address + j) (x .length - j) ∷ [])) (lt-leb (x .length) j (omega arith))
           ∙ ap (λ (q : PieceRow). q ∷ []) (same-row (omega arith) (omega arith)) in
           let none-before : front-of k x ≡ [] = ap (λ (b : Bool). cond b [] (row (x .address) k ∷ [])) (eq-eqb k 0 (omega arith)) in
-          uncut x v fs None (Some (a1 (leaf i x v))) C refl (sym none-before) (sym whole) tt (C .at, C .value) (λ q. omega arith);
+          uncut x v fs None (Some (a1 (leaf i x v))) C refl (sym none-before) (sym whole) (omega arith) (omega arith) tt (C .at, C .value) (λ q. omega arith);
       few-reads = λ x v fs C. omega arith;
       same-bytes = refl;
       same-capacity = refl;
@@ -179,7 +185,7 @@ module _ {S V : Type 0} {means : List ℕ → V} {bytes : S → List ℕ} {capac
           ap (λ (b : Bool). cond b [] (row (x .address) k ∷ [])) (ne-eqb k 0 (λ z. omega arith))
           ∙ ap (λ (q : PieceRow). q ∷ []) (same-row refl (omega arith)) in
           let none-behind : rest-of j x ≡ [] = ap (λ (b : Bool). cond b [] (row (x .address + j) (x .length - j) ∷ [])) (le-leb (x .length) j (omega arith)) in
-          uncut x v fs (Some (a1 (leaf i x v))) None C refl (sym whole) (sym none-behind) (C .at, C .value) tt (λ q. omega arith);
+          uncut x v fs (Some (a1 (leaf i x v))) None C refl (sym whole) (sym none-behind) (omega arith) (omega arith) (C .at, C .value) tt (λ q. omega arith);
       few-reads = λ x v fs C. omega arith;
       same-bytes = refl;
       same-capacity = refl;
@@ -279,11 +285,14 @@ module _ {S V : Type 0} {means : List ℕ → V} {bytes : S → List ℕ} {capac
               first = Z .first;
               rows-front = A .rows-are ∙ ap (front-of k) is;
               rows-back = Z .rows-are ∙ ap (rest-of j) is;
+              small-front = A .small;
+              small-back = Z .small;
               fit-front = frame-part (Z .frame) (mean means (bytes-of (bytes s))) (A .Q) 0 (λ q. omega (arith, A .kept q, C .once q)) (A .fit);
               fit-back = subst (λ (l : List ℕ). FitPart (mean means (bytes-of l)) rs₃ (Z .Q) 0) bs (Z .fit);
               chain = Z .chain;
               kept = λ q. omega (arith, A .kept q, Z .kept q);
               frame = off-more _ (λ q z. omega (arith, A .kept q)) (off-then (D .put-free .off) (off-then (A .frame) (Z .frame)));
+              spent = omega (arith, A .long, Z .long);
               few = omega (arith, length-append (A .js) (Z .js), A .few, Z .few);
               fresh = λ q z.
                   let parts = occ-list-append (A .js) (Z .js) q in

@@ -8,7 +8,7 @@ use Rattle.std.specs.declared.option.Option.the-variants.{None, Some}
 use Rattle.std.specs.declared.result.Result.{Result}
 use Rattle.std.specs.declared.result.Result.the-variants.{Ok, Err}
 use Rattle.stores.specs.Stores.{largest}
-use Rattle.slots.specs.Ghost.{Arm, same, occ-list, none, head-of, part-of, rows-part, occ-part, At, FitPart, Chain, Calm, Off}
+use Rattle.slots.specs.Ghost.{Arm, same, occ-list, none, head-of, part-of, rows-part, size-part, occ-part, At, FitPart, Chain, Calm, Off}
 use Rattle.slots.specs.Values.{mean}
 use Rattle.slots.specs.declared.records.Unsound.{Unsound}
 use Rattle.slots.specs.declared.records.Link.{Link}
@@ -57,11 +57,14 @@ module _ {S V : Type 0} (means : List ℕ → V) (bytes : S → List ℕ) (capac
     pub first : head-of fs′ ≡ f′
     pub rows-front : rows-part F ≡ front-of k x
     pub rows-back : rows-part G ≡ rest-of j x
+    pub small-front : size-part F ≤ 1
+    pub small-back : size-part G ≤ 1
     pub fit-front : FitPart (mean means (bytes-of (bytes s))) rs′ F 0
     pub fit-back : FitPart (mean means (bytes-of (bytes s))) rs′ G 0
     pub chain : Chain rs′ fs′
     pub kept : (q : ℕ) → occ-part F q + (occ-part G q + occ-list fs′ q) ≡ same i q + occ-list fs q
     pub frame : Off rs rs′ (λ q. same i q + occ-list fs q)
+    pub spent : length fs ≤ length fs′ + 2
     pub few : length js ≤ 2
     pub fresh : (q : ℕ) → occ-list js q ≡ 0 → Calm (getD rs q none) (getD rs′ q none)
 

@@ -77,9 +77,9 @@ open-ends t s i a k (suc e) (b ∷ bs) c = by (step s b .1) (c .quiet) (open-end
     by : (f : Bool) → cond f 1 0 + beginnings n (take e bs) ≡ 0
         → (Closes n e bs → at (tokensFrom t n (suc i) a k bs) 0 ≡ Some (tokenOf t a (suc i + e) k (endState n (take e bs))))
         → at {A = Token} (elim f [
-      | true ↦ tokenOf t a i k s ∷ tokensFrom t n (suc i) i (suc k) bs
-      | false ↦ tokensFrom t n (suc i) a k bs
-    ]) 0 ≡ Some (tokenOf t a (i + suc e) k (endState n (take e bs)))
+          | true ↦ tokenOf t a i k s ∷ tokensFrom t n (suc i) i (suc k) bs
+          | false ↦ tokensFrom t n (suc i) a k bs
+        ]) 0 ≡ Some (tokenOf t a (i + suc e) k (endState n (take e bs)))
     by true q ih = absurd (omega arith)
     by false q ih =
         ih (record { within = omega (arith, c .within); quiet = omega arith; ends = λ h. c .ends (omega arith) })
