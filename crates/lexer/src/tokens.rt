@@ -24,7 +24,7 @@ pub struct TokenRow {
 pub type Rows = [TokenRow; 13];
 
 impl TokenRow {
-    fn start(state: u8) -> TokenRow
+    pub fn start(state: u8) -> TokenRow
         ensures { λ r. ⌜ r ≡ readFrom state [] ⌝ }
     {
         TokenRow {
@@ -36,7 +36,7 @@ impl TokenRow {
     }
 
     // The list and one byte more.
-    fn and_byte(&self, byte: u8) -> TokenRow
+    pub fn and_byte(&self, byte: u8) -> TokenRow
         ensures { λ r. ⌜ ((s : ℕ) (bs : List ℕ) → length bs < heaviest → now (self .entry) ≡ readFrom s bs → r ≡ readFrom s (bs ++ (byte ∷ []))) ⌝ }
     {
         let next = step(self.state, byte);

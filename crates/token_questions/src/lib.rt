@@ -1,1 +1,2 @@
-// Questions on the tokens of a text, by its head.
+// Questions on the tokens of a text, by its head. Slots are only read.
+pub mod scan;
