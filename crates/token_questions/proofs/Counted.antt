@@ -17,7 +17,7 @@ use Rattle.plain.specs.Tokens.{step, endState, tokenOf, tokens, tokensFrom}
 use Rattle.plain.specs.Questions.{tokenAt, tokenNumber}
 use Rattle.plain.specs.declared.answers.Token.{Token}
 use Rattle.lexer.specs.Reading.{beginnings, readFrom}
-use Rattle.lexer.proofs.Rows.{whole-read}
+use Rattle.lexer.proofs.WholeText.{whole-read}
 
 -- reading one list after another
 pub end-append : (s : ℕ) (xs ys : List ℕ) → endState s (xs ++ ys) ≡ endState (endState s xs) ys
