@@ -4,3 +4,4 @@ pub mod Doorsteps
 pub mod PartingAt
 pub mod Supplies
 pub mod PutText
+pub mod PasteText

@@ -3,3 +3,4 @@ pub mod Counts
 pub mod Doors
 pub mod Parting
 pub mod Inserting
+pub mod Pasting

@@ -3,3 +3,4 @@ pub mod doors;
 pub mod edges;
 pub mod inserting;
 pub mod parting;
+pub mod pasting;
