@@ -15,7 +15,7 @@ use Rattle.tree.specs.Post.{NodeTaken, Shrunk, Parts, Whole, Deepened, Planted}
 use Rattle.tree.proofs.Levels.{unpacked}
 use Rattle.tree.proofs.Shrinking.{shrunk-calm}
 use Rattle.seek.specs.Places.{upto}
-use Rattle.seek.specs.Post.{cut-of, Picked}
+use Rattle.seek.specs.Post.{Picked}
 use Rattle.seek.proofs.Moves.{arm-some, yes-none}
 use Rattle.split.specs.declared.halves.Halves.{Halves}
 use Rattle.split.specs.Post.{halves, Halved, Edged, Rejoined, Reopen, Reopened}
@@ -208,7 +208,7 @@ module _ {R I V : Type 0} {weigh : I → ℕ} {means : List I → V} {says : V �
           L = s .L;
           u = s .u;
           Q = s .Q;
-          ok = go (cut-of (s .L) (s .u) (s .Q)) (s .ok);
+          ok = go _ (s .ok);
           text = sym (U .text) ∙ s .slit .text;
           occs = λ j. omega (arith, U .occs j, s .slit .occs j);
           fit-l = s .slit .fit-l;
