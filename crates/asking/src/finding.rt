@@ -15,7 +15,7 @@ pub fn find_row<R: Copy, M: Measure, P: Probe<M>>(
     probe: &P,
     place: &mut M::Value,
 ) -> Result<Option<R>, Unsound>
-    ensures { RowFound Item-as-Weigh.weight M.Measure.means (P.Probe.says probe.now) slots.now tree place.old place.new result }
+    ensures { RowFound M.Item.Weigh.weight M.Measure.means (P.Probe.says probe.now) slots.now tree place.old place.new result }
 {
     let found = search::<R, M, P>(slots, tree, probe, place)?;
     match found {
@@ -35,7 +35,7 @@ pub fn find_row_after<R: Copy, M: Measure, F: Probe<M>, P: Probe<M>>(
     until: &P,
     place: &mut M::Value,
 ) -> Result<Option<R>, Unsound>
-    ensures { RowSought Item-as-Weigh.weight M.Measure.means (F.Probe.says from.now) (P.Probe.says until.now) slots.now tree place.old place.new result }
+    ensures { RowSought M.Item.Weigh.weight M.Measure.means (F.Probe.says from.now) (P.Probe.says until.now) slots.now tree place.old place.new result }
 {
     let found = seek_after::<R, M, F, P>(slots, tree, from, until, place)?;
     match found {

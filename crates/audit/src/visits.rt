@@ -79,7 +79,7 @@ fn visit_twig<R: Copy, M: Measure, L: LeafCheck<R, M>>(
     height: u8,
     i: u16,
 ) -> Result<(), Unsound>
-    ensures { Visited (rules Item-as-Weigh.weight M.Measure.means L.LeafCheck.items L.LeafCheck.good L.LeafCheck.checks) (twig_at slots.now height i) (moment scratch.old budget.old leaves.old) (moment scratch.new budget.new leaves.new) result }
+    ensures { Visited (rules M.Item.Weigh.weight M.Measure.means L.LeafCheck.items L.LeafCheck.good L.LeafCheck.checks) (twig_at slots.now height i) (moment scratch.old budget.old leaves.old) (moment scratch.new budget.new leaves.new) result }
 {
     let record = enter(slots, scratch, i)?;
     match record {
@@ -122,7 +122,7 @@ fn visit_node<R: Copy, M: Measure, L: LeafCheck<R, M>>(
     parts: Digit,
     value: &M::Value,
 ) -> Result<(), Unsound>
-    ensures { Visited (rules Item-as-Weigh.weight M.Measure.means L.LeafCheck.items L.LeafCheck.good L.LeafCheck.checks) (node_at slots.now height parts value.now) (moment scratch.old budget.old leaves.old) (moment scratch.new budget.new leaves.new) result }
+    ensures { Visited (rules M.Item.Weigh.weight M.Measure.means L.LeafCheck.items L.LeafCheck.good L.LeafCheck.checks) (node_at slots.now height parts value.now) (moment scratch.old budget.old leaves.old) (moment scratch.new budget.new leaves.new) result }
 {
     if height == 0 {
         return Err(Unsound);
@@ -140,7 +140,7 @@ fn visit_digit<R: Copy, M: Measure, L: LeafCheck<R, M>>(
     height: u8,
     digit: Digit,
 ) -> Result<(), Unsound>
-    ensures { Visited (rules Item-as-Weigh.weight M.Measure.means L.LeafCheck.items L.LeafCheck.good L.LeafCheck.checks) (arm_at slots.now height digit) (moment scratch.old budget.old leaves.old) (moment scratch.new budget.new leaves.new) result }
+    ensures { Visited (rules M.Item.Weigh.weight M.Measure.means L.LeafCheck.items L.LeafCheck.good L.LeafCheck.checks) (arm_at slots.now height digit) (moment scratch.old budget.old leaves.old) (moment scratch.new budget.new leaves.new) result }
 {
     match digit {
         Digit::One(a) => visit_twig::<R, M, L>(slots, scratch, leaves, budget, height, a),
@@ -170,7 +170,7 @@ fn visit_tree<R: Copy, M: Measure, L: LeafCheck<R, M>>(
     height: u8,
     tree: Tree,
 ) -> Result<(), Unsound>
-    ensures { Visited (rules Item-as-Weigh.weight M.Measure.means L.LeafCheck.items L.LeafCheck.good L.LeafCheck.checks) (tree_at slots.now height tree) (moment scratch.old budget.old leaves.old) (moment scratch.new budget.new leaves.new) result }
+    ensures { Visited (rules M.Item.Weigh.weight M.Measure.means L.LeafCheck.items L.LeafCheck.good L.LeafCheck.checks) (tree_at slots.now height tree) (moment scratch.old budget.old leaves.old) (moment scratch.new budget.new leaves.new) result }
 {
     if height > DEEPEST {
         return Err(Unsound);
@@ -205,7 +205,7 @@ pub fn visit_roots<R: Copy, M: Measure, L: LeafCheck<R, M>>(
     leaves: &mut L,
     budget: &mut Budget,
 ) -> Result<(), Unsound>
-    ensures { Visited (rules Item-as-Weigh.weight M.Measure.means L.LeafCheck.items L.LeafCheck.good L.LeafCheck.checks) (trees_at slots.now roots.now) (moment scratch.old budget.old leaves.old) (moment scratch.new budget.new leaves.new) result }
+    ensures { Visited (rules M.Item.Weigh.weight M.Measure.means L.LeafCheck.items L.LeafCheck.good L.LeafCheck.checks) (trees_at slots.now roots.now) (moment scratch.old budget.old leaves.old) (moment scratch.new budget.new leaves.new) result }
 {
     for root in roots {
         visit_tree::<R, M, L>(slots, scratch, leaves, budget, 0, *root)?;

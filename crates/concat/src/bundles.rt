@@ -34,7 +34,7 @@ pub fn feed<R: Copy, M: Measure>(
     batch: Batch,
     x: u16,
 ) -> Result<Batch, Unsound>
-    ensures { FedOne Item-as-Weigh.weight M.Measure.means slots.old slots.new free.old free.new batch x result }
+    ensures { FedOne M.Item.Weigh.weight M.Measure.means slots.old slots.new free.old free.new batch x result }
 {
     match grow(Side::Back, batch.rest, x) {
         Grown::Room(rest) => Ok(Batch {
@@ -55,7 +55,7 @@ pub fn feed_part<R: Copy, M: Measure>(
     batch: Batch,
     part: Option<Digit>,
 ) -> Result<Batch, Unsound>
-    ensures { FedPart Item-as-Weigh.weight M.Measure.means slots.old slots.new free.old free.new batch part result }
+    ensures { FedPart M.Item.Weigh.weight M.Measure.means slots.old slots.new free.old free.new batch part result }
 {
     match part {
         None => Ok(batch),
@@ -73,7 +73,7 @@ pub fn finish<R: Copy, M: Measure>(
     free: &mut Link,
     batch: Batch,
 ) -> Result<Option<Digit>, Unsound>
-    ensures { Finished Item-as-Weigh.weight M.Measure.means slots.old slots.new free.old free.new batch result }
+    ensures { Finished M.Item.Weigh.weight M.Measure.means slots.old slots.new free.old free.new batch result }
 {
     match batch.rest {
         Digit::Four(a, b, c, d) => {
@@ -97,7 +97,7 @@ pub fn bundle<R: Copy, M: Measure>(
     part: Option<Digit>,
     front: Digit,
 ) -> Result<Option<Digit>, Unsound>
-    ensures { Bundled Item-as-Weigh.weight M.Measure.means slots.old slots.new free.old free.new back part front result }
+    ensures { Bundled M.Item.Weigh.weight M.Measure.means slots.old slots.new free.old free.new back part front result }
 {
     let some = feed_part::<R, M>(
         slots,

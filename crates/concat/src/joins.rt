@@ -18,7 +18,7 @@ pub fn join_between<R: Copy, M: Measure>(
     part: Option<Digit>,
     j: u16,
 ) -> Result<M::Value, Unsound>
-    ensures { JoinedBetween Item-as-Weigh.weight M.Measure.means slots.now i part j result }
+    ensures { JoinedBetween M.Item.Weigh.weight M.Measure.means slots.now i part j result }
 {
     match part {
         None => join_at::<R, M>(slots, value_at(slots, i), j),
@@ -38,7 +38,7 @@ pub fn extend_down<R: Copy, M: Measure>(
     tree: Tree,
     part: Option<Digit>,
 ) -> Result<Tree, Unsound>
-    ensures { Extended Item-as-Weigh.weight M.Measure.means slots.old slots.new free.old free.new fuel side tree part result }
+    ensures { Extended M.Item.Weigh.weight M.Measure.means slots.old slots.new free.old free.new fuel side tree part result }
 {
     match part {
         None => Ok(tree),
@@ -60,7 +60,7 @@ pub fn extend_past<R: Copy, M: Measure>(
     part: Option<Digit>,
     x: u16,
 ) -> Result<Tree, Unsound>
-    ensures { ExtendedPast Item-as-Weigh.weight M.Measure.means slots.old slots.new free.old free.new fuel side tree part x result }
+    ensures { ExtendedPast M.Item.Weigh.weight M.Measure.means slots.old slots.new free.old free.new fuel side tree part x result }
 {
     let more = extend_down::<R, M>(slots, free, fuel, side, tree, part)?;
     push_down::<R, M>(slots, free, fuel, side, more, x)
@@ -74,7 +74,7 @@ pub fn concat_down<R: Copy, M: Measure>(
     part: Option<Digit>,
     right: Tree,
 ) -> Result<Tree, Unsound>
-    ensures { Melted Item-as-Weigh.weight M.Measure.means slots.old slots.new free.old free.new fuel left part right result }
+    ensures { Melted M.Item.Weigh.weight M.Measure.means slots.old slots.new free.old free.new fuel left part right result }
 {
     match left {
         Tree::Empty => extend_down::<R, M>(slots, free, fuel, Side::Front, right, part),
@@ -106,7 +106,7 @@ pub fn extend<R: Copy, M: Measure>(
     tree: Tree,
     part: Option<Digit>,
 ) -> Result<Tree, Unsound>
-    ensures { Extends Item-as-Weigh.weight M.Measure.means slots.old slots.new free.old free.new side tree part result }
+    ensures { Extends M.Item.Weigh.weight M.Measure.means slots.old slots.new free.old free.new side tree part result }
 {
     extend_down::<R, M>(slots, free, FUEL, side, tree, part)
 }
@@ -119,7 +119,7 @@ pub fn concat<R: Copy, M: Measure>(
     part: Option<Digit>,
     right: Tree,
 ) -> Result<Tree, Unsound>
-    ensures { Concat Item-as-Weigh.weight M.Measure.means slots.old slots.new free.old free.new left part right result }
+    ensures { Concat M.Item.Weigh.weight M.Measure.means slots.old slots.new free.old free.new left part right result }
 {
     concat_down::<R, M>(slots, free, FUEL, left, part, right)
 }

@@ -24,7 +24,7 @@ fn inspect<R: Copy, M: Measure, S, L: LeafCheck<R, M, S>>(
     scratch: &mut [u8],
     source: &mut S,
 ) -> Result<(), Unsound>
-    ensures { Inspected (rules Item-as-Weigh.weight M.Measure.means L.LeafCheck.items L.LeafCheck.good L.LeafCheck.checks) source.old slots.now roots.now free count source.new scratch.old result }
+    ensures { Inspected (rules M.Item.Weigh.weight M.Measure.means L.LeafCheck.items L.LeafCheck.good L.LeafCheck.checks) source.old slots.now roots.now free count source.new scratch.old result }
 {
     if slots.len() < LEAST_SLOTS {
         return Err(Unsound);

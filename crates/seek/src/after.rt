@@ -17,7 +17,7 @@ fn then_digit<R: Copy, M: Measure, P: Probe<M>>(
     until: &P,
     place: &mut M::Value,
 ) -> Result<Option<u16>, Unsound>
-    ensures { DigitThen Item-as-Weigh.weight M.Measure.means (P.Probe.says until.now) slots.now height found digit place.old place.new result }
+    ensures { DigitThen M.Item.Weigh.weight M.Measure.means (P.Probe.says until.now) slots.now height found digit place.old place.new result }
 {
     let earlier = found?;
     if earlier.is_some() {
@@ -37,7 +37,7 @@ fn then_tree<R: Copy, M: Measure, P: Probe<M>>(
     until: &P,
     place: &mut M::Value,
 ) -> Result<Option<u16>, Unsound>
-    ensures { TreeThen Item-as-Weigh.weight M.Measure.means (P.Probe.says until.now) slots.now height found tree place.old place.new result }
+    ensures { TreeThen M.Item.Weigh.weight M.Measure.means (P.Probe.says until.now) slots.now height found tree place.old place.new result }
 {
     let earlier = found?;
     if earlier.is_some() {
@@ -56,7 +56,7 @@ fn after_twig<R: Copy, M: Measure, F: Probe<M>, P: Probe<M>>(
     until: &P,
     place: &mut M::Value,
 ) -> Result<Option<u16>, Unsound>
-    ensures { TwigAfter Item-as-Weigh.weight M.Measure.means (F.Probe.says from.now) (P.Probe.says until.now) slots.now height i start.old place.old place.new result }
+    ensures { TwigAfter M.Item.Weigh.weight M.Measure.means (F.Probe.says from.now) (P.Probe.says until.now) slots.now height i start.old place.old place.new result }
 {
     if height == 0 {
         return Ok(None);
@@ -88,7 +88,7 @@ fn after_digit<R: Copy, M: Measure, F: Probe<M>, P: Probe<M>>(
     until: &P,
     place: &mut M::Value,
 ) -> Result<Option<u16>, Unsound>
-    ensures { DigitAfter Item-as-Weigh.weight M.Measure.means (F.Probe.says from.now) (P.Probe.says until.now) slots.now height digit start.old place.old place.new result }
+    ensures { DigitAfter M.Item.Weigh.weight M.Measure.means (F.Probe.says from.now) (P.Probe.says until.now) slots.now height digit start.old place.old place.new result }
 {
     match pick::<R, M, F>(slots, digit, from, start)? {
         Some(cut) => {
@@ -109,7 +109,7 @@ fn after_tree<R: Copy, M: Measure, F: Probe<M>, P: Probe<M>>(
     until: &P,
     place: &mut M::Value,
 ) -> Result<Option<u16>, Unsound>
-    ensures { TreeAfter Item-as-Weigh.weight M.Measure.means (F.Probe.says from.now) (P.Probe.says until.now) slots.now height tree start.old place.old place.new result }
+    ensures { TreeAfter M.Item.Weigh.weight M.Measure.means (F.Probe.says from.now) (P.Probe.says until.now) slots.now height tree start.old place.old place.new result }
 {
     match tree {
         Tree::Empty => Ok(None),
@@ -161,7 +161,7 @@ pub fn seek_after<R: Copy, M: Measure, F: Probe<M>, P: Probe<M>>(
     until: &P,
     place: &mut M::Value,
 ) -> Result<Option<u16>, Unsound>
-    ensures { SoughtAfter Item-as-Weigh.weight M.Measure.means (F.Probe.says from.now) (P.Probe.says until.now) slots.now tree place.old place.new result }
+    ensures { SoughtAfter M.Item.Weigh.weight M.Measure.means (F.Probe.says from.now) (P.Probe.says until.now) slots.now tree place.old place.new result }
 {
     let mut start = M::empty();
     after_tree::<R, M, F, P>(slots, 0, tree, from, &mut start, until, place)

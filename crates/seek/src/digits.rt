@@ -29,7 +29,7 @@ pub fn reaches<R: Copy, M: Measure, P: Probe<M>>(
     probe: &P,
     place: &mut M::Value,
 ) -> Result<bool, Unsound>
-    ensures { Passed Item-as-Weigh.weight M.Measure.means (P.Probe.says probe.now) slots.now i place.old place.new result }
+    ensures { Passed M.Item.Weigh.weight M.Measure.means (P.Probe.says probe.now) slots.now i place.old place.new result }
 {
     let all = join_on::<R, M>(slots, place, i)?;
     if probe.holds(&all) {
@@ -46,7 +46,7 @@ pub fn reaches_tree<R: Copy, M: Measure, P: Probe<M>>(
     probe: &P,
     place: &mut M::Value,
 ) -> Result<bool, Unsound>
-    ensures { TreePassed Item-as-Weigh.weight M.Measure.means (P.Probe.says probe.now) slots.now tree place.old place.new result }
+    ensures { TreePassed M.Item.Weigh.weight M.Measure.means (P.Probe.says probe.now) slots.now tree place.old place.new result }
 {
     match tree {
         Tree::Empty => Ok(false),
@@ -63,7 +63,7 @@ fn attempt<R: Copy, M: Measure, P: Probe<M>>(
     probe: &P,
     place: &mut M::Value,
 ) -> Result<Option<Cut>, Unsound>
-    ensures { Tried Item-as-Weigh.weight M.Measure.means (P.Probe.says probe.now) slots.now before cut place.old place.new result }
+    ensures { Tried M.Item.Weigh.weight M.Measure.means (P.Probe.says probe.now) slots.now before cut place.old place.new result }
 {
     let taken = before?;
     if taken.is_some() {
@@ -82,7 +82,7 @@ pub fn pick<R: Copy, M: Measure, P: Probe<M>>(
     probe: &P,
     place: &mut M::Value,
 ) -> Result<Option<Cut>, Unsound>
-    ensures { Picked Item-as-Weigh.weight M.Measure.means (P.Probe.says probe.now) slots.now digit place.old place.new result }
+    ensures { Picked M.Item.Weigh.weight M.Measure.means (P.Probe.says probe.now) slots.now digit place.old place.new result }
 {
     match digit {
         Digit::One(a) => {

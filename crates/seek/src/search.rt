@@ -18,7 +18,7 @@ pub fn search_twig<R: Copy, M: Measure, P: Probe<M>>(
     probe: &P,
     place: &mut M::Value,
 ) -> Result<u16, Unsound>
-    ensures { TwigSearched Item-as-Weigh.weight M.Measure.means (P.Probe.says probe.now) slots.now height i place.old place.new result }
+    ensures { TwigSearched M.Item.Weigh.weight M.Measure.means (P.Probe.says probe.now) slots.now height i place.old place.new result }
 {
     if height == 0 {
         return Ok(i);
@@ -37,7 +37,7 @@ pub fn search_digit<R: Copy, M: Measure, P: Probe<M>>(
     probe: &P,
     place: &mut M::Value,
 ) -> Result<Option<u16>, Unsound>
-    ensures { DigitSearched Item-as-Weigh.weight M.Measure.means (P.Probe.says probe.now) slots.now height digit place.old place.new result }
+    ensures { DigitSearched M.Item.Weigh.weight M.Measure.means (P.Probe.says probe.now) slots.now height digit place.old place.new result }
 {
     match pick::<R, M, P>(slots, digit, probe, place)? {
         Some(cut) => {
@@ -56,7 +56,7 @@ pub fn search_tree<R: Copy, M: Measure, P: Probe<M>>(
     probe: &P,
     place: &mut M::Value,
 ) -> Result<Option<u16>, Unsound>
-    ensures { TreeSearched Item-as-Weigh.weight M.Measure.means (P.Probe.says probe.now) slots.now height tree place.old place.new result }
+    ensures { TreeSearched M.Item.Weigh.weight M.Measure.means (P.Probe.says probe.now) slots.now height tree place.old place.new result }
 {
     match tree {
         Tree::Empty => Ok(None),
@@ -86,7 +86,7 @@ pub fn search<R: Copy, M: Measure, P: Probe<M>>(
     probe: &P,
     place: &mut M::Value,
 ) -> Result<Option<u16>, Unsound>
-    ensures { Searched Item-as-Weigh.weight M.Measure.means (P.Probe.says probe.now) slots.now tree place.old place.new result }
+    ensures { Searched M.Item.Weigh.weight M.Measure.means (P.Probe.says probe.now) slots.now tree place.old place.new result }
 {
     search_tree::<R, M, P>(slots, 0, tree, probe, place)
 }

@@ -26,7 +26,7 @@ pub fn join_values<M: Measure>(
     a: Result<M::Value, Unsound>,
     b: Result<M::Value, Unsound>,
 ) -> Result<M::Value, Unsound>
-    ensures { JoinedOk Item-as-Weigh.weight M.Measure.means a b result }
+    ensures { JoinedOk M.Item.Weigh.weight M.Measure.means a b result }
 {
     match (a, b) {
         (Ok(x), Ok(y)) => Ok(M::join(&x, &y)),
@@ -40,7 +40,7 @@ pub fn join_on<R: Copy, M: Measure>(
     before: &M::Value,
     i: u16,
 ) -> Result<M::Value, Unsound>
-    ensures { JoinedOk Item-as-Weigh.weight M.Measure.means (Ok before.now) (value_in (slice_index_or slots.now i none)) result }
+    ensures { JoinedOk M.Item.Weigh.weight M.Measure.means (Ok before.now) (value_in (slice_index_or slots.now i none)) result }
 {
     if i as usize >= slots.len() {
         return Err(Unsound);
@@ -59,7 +59,7 @@ pub fn join_at<R: Copy, M: Measure>(
     before: Result<M::Value, Unsound>,
     i: u16,
 ) -> Result<M::Value, Unsound>
-    ensures { JoinedOk Item-as-Weigh.weight M.Measure.means before (value_in (slice_index_or slots.now i none)) result }
+    ensures { JoinedOk M.Item.Weigh.weight M.Measure.means before (value_in (slice_index_or slots.now i none)) result }
 {
     match before {
         Ok(v) => join_on::<R, M>(slots, &v, i),
@@ -71,7 +71,7 @@ pub fn digit_value<R: Copy, M: Measure>(
     slots: &[Record<R, M::Value>],
     digit: Digit,
 ) -> Result<M::Value, Unsound>
-    ensures { DigitValued Item-as-Weigh.weight M.Measure.means slots.now digit result }
+    ensures { DigitValued M.Item.Weigh.weight M.Measure.means slots.now digit result }
 {
     match digit {
         Digit::One(a) => value_at(slots, a),
@@ -92,7 +92,7 @@ pub fn part_value<R: Copy, M: Measure>(
     slots: &[Record<R, M::Value>],
     part: Option<Digit>,
 ) -> Result<M::Value, Unsound>
-    ensures { PartValued Item-as-Weigh.weight M.Measure.means slots.now part result }
+    ensures { PartValued M.Item.Weigh.weight M.Measure.means slots.now part result }
 {
     match part {
         None => Ok(M::empty()),
@@ -104,7 +104,7 @@ pub fn tree_value<R: Copy, M: Measure>(
     slots: &[Record<R, M::Value>],
     tree: Tree,
 ) -> Result<M::Value, Unsound>
-    ensures { TreeValued Item-as-Weigh.weight M.Measure.means slots.now tree result }
+    ensures { TreeValued M.Item.Weigh.weight M.Measure.means slots.now tree result }
 {
     match tree {
         Tree::Empty => Ok(M::empty()),
@@ -119,7 +119,7 @@ pub fn level_value<R: Copy, M: Measure>(
     middle: Tree,
     back: Digit,
 ) -> Result<M::Value, Unsound>
-    ensures { LevelValued Item-as-Weigh.weight M.Measure.means slots.now front middle back result }
+    ensures { LevelValued M.Item.Weigh.weight M.Measure.means slots.now front middle back result }
 {
     let v = digit_value::<R, M>(slots, front);
     let w = join_values::<M>(v, tree_value::<R, M>(slots, middle));

@@ -33,7 +33,7 @@ fn survey<R: Copy, M: Measure, S, L: LeafCheck<R, M, S>>(
     marks: &mut [u8],
     source: &mut S,
 ) -> Result<u16, Unsound>
-    ensures { Surveyed (rules Item-as-Weigh.weight M.Measure.means L.LeafCheck.items L.LeafCheck.good L.LeafCheck.checks) source.old slots.now roots.now free limit source.new marks.old result }
+    ensures { Surveyed (rules M.Item.Weigh.weight M.Measure.means L.LeafCheck.items L.LeafCheck.good L.LeafCheck.checks) source.old slots.now roots.now free limit source.new marks.old result }
 {
     let mut budget = Budget {
         elements: limit,
@@ -55,7 +55,7 @@ fn survey_fresh<R: Copy, M: Measure, S, L: LeafCheck<R, M, S>>(
     marks: &mut [u8],
     source: &mut S,
 ) -> Result<u16, Unsound>
-    ensures { SurveyedFresh (rules Item-as-Weigh.weight M.Measure.means L.LeafCheck.items L.LeafCheck.good L.LeafCheck.checks) source.old slots.now roots.now free limit source.new marks.old marks.new result }
+    ensures { SurveyedFresh (rules M.Item.Weigh.weight M.Measure.means L.LeafCheck.items L.LeafCheck.good L.LeafCheck.checks) source.old slots.now roots.now free limit source.new marks.old marks.new result }
 {
     marks.fill(0);
     let found = survey::<R, M, S, L>(slots, roots, free, limit, marks, source);
@@ -73,7 +73,7 @@ pub fn audit<R: Copy, M: Measure, S, L: LeafCheck<R, M, S>>(
     scratch: &mut [u8],
     source: &mut S,
 ) -> Result<u16, AuditFault>
-    ensures { Audited (rules Item-as-Weigh.weight M.Measure.means L.LeafCheck.items L.LeafCheck.good L.LeafCheck.checks) source.old slots.now roots.now free limit source.new scratch.old scratch.new result }
+    ensures { Audited (rules M.Item.Weigh.weight M.Measure.means L.LeafCheck.items L.LeafCheck.good L.LeafCheck.checks) source.old slots.now roots.now free limit source.new scratch.old scratch.new result }
 {
     let count = slots.len();
     if scratch.len() < count {

@@ -18,7 +18,7 @@ pub fn reopen<R: Copy, M: Measure, P: Probe<M>>(
     probe: &P,
     place: &mut M::Value,
 ) -> Result<Cut, Unsound>
-    ensures { Reopened Item-as-Weigh.weight M.Measure.means (P.Probe.says probe.now) slots.old slots.new free.old free.new n place.old place.new result }
+    ensures { Reopened M.Item.Weigh.weight M.Measure.means (P.Probe.says probe.now) slots.old slots.new free.old free.new n place.old place.new result }
 {
     let parts = take_node(slots, free, n)?;
     match pick::<R, M, P>(slots, parts, probe, place)? {
@@ -36,7 +36,7 @@ pub fn split_down<R: Copy, M: Measure, P: Probe<M>>(
     probe: &P,
     place: &mut M::Value,
 ) -> Result<Option<Halves>, Unsound>
-    ensures { Splits Item-as-Weigh.weight M.Measure.means (P.Probe.says probe.now) slots.old slots.new free.old free.new fuel tree place.old place.new result }
+    ensures { Splits M.Item.Weigh.weight M.Measure.means (P.Probe.says probe.now) slots.old slots.new free.old free.new fuel tree place.old place.new result }
 {
     match tree {
         Tree::Empty => Ok(None),
@@ -81,7 +81,7 @@ pub fn split<R: Copy, M: Measure, P: Probe<M>>(
     probe: &P,
     place: &mut M::Value,
 ) -> Result<Option<Halves>, Unsound>
-    ensures { SplitAt Item-as-Weigh.weight M.Measure.means (P.Probe.says probe.now) slots.old slots.new free.old free.new tree place.old place.new result }
+    ensures { SplitAt M.Item.Weigh.weight M.Measure.means (P.Probe.says probe.now) slots.old slots.new free.old free.new tree place.old place.new result }
 {
     split_down::<R, M, P>(slots, free, LEVELS, tree, probe, place)
 }

@@ -60,7 +60,7 @@ pub fn edge<R: Copy, M: Measure>(
     level: Spine,
     cut: Cut,
 ) -> Result<Option<Halves>, Unsound>
-    ensures { Edged Item-as-Weigh.weight M.Measure.means slots.old slots.new free.old free.new fuel side i level cut result }
+    ensures { Edged M.Item.Weigh.weight M.Measure.means slots.old slots.new free.old free.new fuel side i level cut result }
 {
     let far = pick(side, level.back, level.front);
     let near = part(flip(side), cut);
@@ -79,7 +79,7 @@ pub fn rejoin<R: Copy, M: Measure>(
     middle: Halves,
     cut: Cut,
 ) -> Result<Option<Halves>, Unsound>
-    ensures { Rejoined Item-as-Weigh.weight M.Measure.means slots.old slots.new free.old free.new fuel i level middle cut result }
+    ensures { Rejoined M.Item.Weigh.weight M.Measure.means slots.old slots.new free.old free.new fuel i level middle cut result }
 {
     let left = deep::<R, M>(
         slots,

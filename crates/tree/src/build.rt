@@ -16,7 +16,7 @@ pub fn join_ends<R: Copy, M: Measure>(
     x: u16,
     i: u16,
 ) -> Result<M::Value, Unsound>
-    ensures { JoinedEnds Item-as-Weigh.weight M.Measure.means slots.now side x i result }
+    ensures { JoinedEnds M.Item.Weigh.weight M.Measure.means slots.now side x i result }
 {
     match side {
         Side::Front => join_at::<R, M>(slots, value_at(slots, x), i),
@@ -58,7 +58,7 @@ pub fn put_node<R: Copy, M: Measure>(
     free: &mut Link,
     parts: Digit,
 ) -> Result<u16, Unsound>
-    ensures { NodePut Item-as-Weigh.weight M.Measure.means slots.old slots.new free.old free.new parts result }
+    ensures { NodePut M.Item.Weigh.weight M.Measure.means slots.old slots.new free.old free.new parts result }
 {
     let value = digit_value::<R, M>(slots, parts)?;
     let record = node(parts, value)?;
@@ -89,7 +89,7 @@ pub fn settle<R: Copy, M: Measure>(
     middle: Tree,
     far: Digit,
 ) -> Result<Tree, Unsound>
-    ensures { Settled Item-as-Weigh.weight M.Measure.means slots.old slots.new side i near middle far result }
+    ensures { Settled M.Item.Weigh.weight M.Measure.means slots.old slots.new side i near middle far result }
 {
     let value = level_value::<R, M>(slots, pick(side, near, far), middle, pick(side, far, near));
     put_level(slots, side, i, near, middle, far, value)
@@ -102,7 +102,7 @@ pub fn replant<R: Copy, M: Measure>(
     i: u16,
     digit: Digit,
 ) -> Result<Tree, Unsound>
-    ensures { Replanted Item-as-Weigh.weight M.Measure.means slots.old slots.new free.old free.new i digit result }
+    ensures { Replanted M.Item.Weigh.weight M.Measure.means slots.old slots.new free.old free.new i digit result }
 {
     match digit {
         Digit::One(a) => {
@@ -142,7 +142,7 @@ pub fn plant<R: Copy, M: Measure>(
     free: &mut Link,
     part: Option<Digit>,
 ) -> Result<Tree, Unsound>
-    ensures { Planted Item-as-Weigh.weight M.Measure.means slots.old slots.new free.old free.new part result }
+    ensures { Planted M.Item.Weigh.weight M.Measure.means slots.old slots.new free.old free.new part result }
 {
     match part {
         None => Ok(Tree::Empty),

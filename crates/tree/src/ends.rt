@@ -27,7 +27,7 @@ pub fn push_down<R: Copy, M: Measure>(
     tree: Tree,
     x: u16,
 ) -> Result<Tree, Unsound>
-    ensures { Pushed Item-as-Weigh.weight M.Measure.means slots.old slots.new free.old free.new fuel side tree x result }
+    ensures { Pushed M.Item.Weigh.weight M.Measure.means slots.old slots.new free.old free.new fuel side tree x result }
 {
     match tree {
         Tree::Empty => Ok(Tree::Single(x)),
@@ -74,7 +74,7 @@ pub fn refill<R: Copy, M: Measure>(
     middle: Tree,
     far: Digit,
 ) -> Result<Tree, Unsound>
-    ensures { Refilled Item-as-Weigh.weight M.Measure.means slots.old slots.new free.old free.new side i n middle far result }
+    ensures { Refilled M.Item.Weigh.weight M.Measure.means slots.old slots.new free.old free.new side i n middle far result }
 {
     let near = take_node(slots, free, n)?;
     settle::<R, M>(slots, side, i, near, middle, far)
@@ -91,7 +91,7 @@ pub fn deep<R: Copy, M: Measure>(
     middle: Tree,
     far: Digit,
 ) -> Result<Tree, Unsound>
-    ensures { Deepened Item-as-Weigh.weight M.Measure.means slots.old slots.new free.old free.new fuel side i near middle far result }
+    ensures { Deepened M.Item.Weigh.weight M.Measure.means slots.old slots.new free.old free.new fuel side i near middle far result }
 {
     match near {
         Some(digit) => settle::<R, M>(slots, side, i, digit, middle, far),
@@ -129,7 +129,7 @@ pub fn pop_down<R: Copy, M: Measure>(
     side: Side,
     tree: Tree,
 ) -> Result<Option<Popped>, Unsound>
-    ensures { Pops Item-as-Weigh.weight M.Measure.means slots.old slots.new free.old free.new fuel side tree result }
+    ensures { Pops M.Item.Weigh.weight M.Measure.means slots.old slots.new free.old free.new fuel side tree result }
 {
     match tree {
         Tree::Empty => Ok(None),
@@ -157,7 +157,7 @@ pub fn pop<R: Copy, M: Measure>(
     side: Side,
     tree: Tree,
 ) -> Result<Option<Popped>, Unsound>
-    ensures { PopsFirst Item-as-Weigh.weight M.Measure.means slots.old slots.new free.old free.new side tree result }
+    ensures { PopsFirst M.Item.Weigh.weight M.Measure.means slots.old slots.new free.old free.new side tree result }
 {
     pop_down::<R, M>(slots, free, FUEL, side, tree)
 }

@@ -13,8 +13,8 @@ returns c =
     let text = c.args.text.now in
     let rest = c.args.rest.now in
     let i = c.args.number + 1 in
-    let calls = ap plain_calls c.as-slice-4.ensures.value ∙ c.in-ok-calls.ensures ∙ ap meant_all c.as-slice-2.ensures.value ∙ c.in-ok-read.ensures in
-    let same = replies_printed i (fresh text (length text + 4096) 168 168) rest (plain_calls c.as-slice-4.result.now) c.reply-to-calls.new.replies calls c.reply-to-calls.ensures in
-    let refilled = with_items_is c.in-ok-replies.replies c.reply-to-calls.new.replies (c.reply-to-calls.auto.replies ∙ c.as-mut-slice.ensures.len) in
-    made_printed c.print-replies.result _ _ (replies_from i c.as-slice-5.result.now (lines_of rest)) _
-    (ap (λ a. replies_from i a (lines_of rest)) (c.as-slice-5.ensures.value ∙ refilled) ∙ same) c.print-replies.ensures
+    let calls = ap plain_calls c.as_slice-4.ensures.value ∙ c.in_ok-calls.ensures ∙ ap meant_all c.as_slice-2.ensures.value ∙ c.in_ok-read.ensures in
+    let same = replies_printed i (fresh text (length text + 4096) 168 168) rest (plain_calls c.as_slice-4.result.now) c.reply_to_calls.new.replies calls c.reply_to_calls.ensures in
+    let refilled = with_items_is c.in_ok-replies.replies c.reply_to_calls.new.replies (c.reply_to_calls.auto.replies ∙ c.as_mut_slice.ensures.len) in
+    made_printed c.print_replies.result _ _ (replies_from i c.as_slice-5.result.now (lines_of rest)) _
+    (ap (λ a. replies_from i a (lines_of rest)) (c.as_slice-5.ensures.value ∙ refilled) ∙ same) c.print_replies.ensures

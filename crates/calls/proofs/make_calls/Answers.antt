@@ -10,8 +10,8 @@ loop-i-init g c = none_made g.A.Measure.means g.S.Store.bytes g.S.Store.capacity
 pub loop-i-preserved : goal.loop-i-preserved
 loop-i-preserved g c =
     let here : c.loop-i.i < length c.loop-i.replies = omega arith in
-    next_made g.A.Measure.means g.S.Store.bytes g.S.Store.capacity g.S.Store.reads c.args.calls.now c.loop-i.replies c.put-reply.new.replies c.loop-i.i _ c.make-call-next.result.1 _ (omega arith) here
-    c.loop-i.auto.slots c.loop-i.auto.marks c.loop-i.auto.scratch c.make-call-next.ensures (c.put-reply.ensures here) c.loop-i.invariant
+    next_made g.A.Measure.means g.S.Store.bytes g.S.Store.capacity g.S.Store.reads c.args.calls.now c.loop-i.replies c.put_reply.new.replies c.loop-i.i _ c.make_call-next.result.1 _ (omega arith) here
+    c.loop-i.auto.slots c.loop-i.auto.marks c.loop-i.auto.scratch c.make_call-next.ensures (c.put_reply.ensures here) c.loop-i.invariant
 
 pub returns : goal.returns
 returns g c = all_made g.A.Measure.means g.S.Store.bytes g.S.Store.capacity g.S.Store.reads (omega (arith, length-map c.args.calls.now plain_call)) c.loop-i.auto.replies c.loop-i.invariant

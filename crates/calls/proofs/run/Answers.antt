@@ -13,8 +13,8 @@ returns-then-scratch-larger g c = short_scratch g.A.Measure.means g.S.Store.byte
 pub returns-in-Ok : goal.returns-in-Ok
 returns-in-Ok g c =
     was_run g.A.Measure.means g.S.Store.bytes g.S.Store.capacity g.S.Store.reads (plain_calls c.args.calls.now) c.args.slots.now c.args.marks.now c.args.store.now c.args.scratch.now c.args.replies.now (omega (arith, length-map c.args.calls.now plain_call)) (omega arith)
-    c.open.new.slots c.make-calls-text.new.slots c.settle.new.slots c.open.new.marks c.make-calls-text.new.marks c.open.new.store c.make-calls-text.new.store c.make-calls-text.new.scratch c.make-calls-text.new.replies
-    c.in-Ok.whole c.settle.result c.make-calls-text.result c.open.auto.slots c.open.auto.marks c.in-Ok.ensures c.make-calls-text.ensures c.settle.ensures
+    c.open.new.slots c.make_calls-text.new.slots c.settle.new.slots c.open.new.marks c.make_calls-text.new.marks c.open.new.store c.make_calls-text.new.store c.make_calls-text.new.scratch c.make_calls-text.new.replies
+    c.in-Ok.whole c.settle.result c.make_calls-text.result c.open.auto.slots c.open.auto.marks c.in-Ok.ensures c.make_calls-text.ensures c.settle.ensures
 
 pub returns-in-Err : goal.returns-in-Err
 returns-in-Err g c = unopened g.A.Measure.means g.S.Store.bytes g.S.Store.capacity g.S.Store.reads (plain_calls c.args.calls.now) c.args.slots.now c.args.marks.now c.args.store.now c.args.scratch.now c.args.replies.now (omega (arith, length-map c.args.calls.now plain_call)) (omega arith) c.open.new.slots c.open.new.marks c.open.new.store c.in-Err.fault c.in-Err.ensures

@@ -5,4 +5,4 @@ pub returns-then-scratch-larger : goal.returns-then-scratch-larger
 returns-then-scratch-larger g c = short_scratch c.max-larger.ensures c.if-scratch-larger.true
 
 pub returns : goal.returns
-returns g c = front_audited c.args.scratch.now c.max-larger.ensures c.if-scratch-larger.false c.inspect-memory-found.ensures c.inspect-memory-found.auto.scratch (c.fill.ensures.after (λ y e. e)) _ c.sound.ensures
+returns g c = front_audited c.args.scratch.now c.max-larger.ensures c.if-scratch-larger.false c.inspect_memory-found.ensures c.inspect_memory-found.auto.scratch (c.fill.ensures.after (λ y e. e)) _ c.sound.ensures

@@ -2,14 +2,14 @@ use Rattle.std.proofs.Common.{inl, inr, ⊎_elim}
 use Rattle.opening.proofs.FreshTexts.{open_few_slots, open_many_bytes, open_unsound, opened}
 use Rattle.opening.proofs.«open».Goals as goal
 
-pub returns-then-slots-lt-LEAST-SLOTS : goal.returns-then-slots-lt-LEAST-SLOTS
-returns-then-slots-lt-LEAST-SLOTS g c = open_few_slots (⊎_elim inl (λ both. inr both.1) c.then-slots-lt-LEAST-SLOTS.either)
+pub returns-then-slots-lt-LEAST_SLOTS : goal.returns-then-slots-lt-LEAST_SLOTS
+returns-then-slots-lt-LEAST_SLOTS g c = open_few_slots (⊎_elim inl (λ both. inr both.1) c.then-slots-lt-LEAST_SLOTS.either)
 
 pub returns-then-length-limit : goal.returns-then-length-limit
-returns-then-length-limit g c = open_many_bytes c.if-slots-lt-LEAST-SLOTS.false c.if-marks-lt-LEAST-SLOTS.false c.len-length.ensures c.limit.ensures c.if-length-limit.true
+returns-then-length-limit g c = open_many_bytes c.if-slots-lt-LEAST_SLOTS.false c.if-marks-lt-LEAST_SLOTS.false c.len-length.ensures c.limit.ensures c.if-length-limit.true
 
 pub returns-in-Ok : goal.returns-in-Ok
-returns-in-Ok g c = opened c.if-slots-lt-LEAST-SLOTS.false c.if-marks-lt-LEAST-SLOTS.false c.len-length.ensures c.limit.ensures c.if-length-limit.false c.lay-out-free.ensures c.lay-out-free-marks.ensures c.fill.ensures c.in-Ok.is c.div-ceil.ensures
+returns-in-Ok g c = opened c.if-slots-lt-LEAST_SLOTS.false c.if-marks-lt-LEAST_SLOTS.false c.len-length.ensures c.limit.ensures c.if-length-limit.false c.lay_out-free.ensures c.lay_out-free_marks.ensures c.fill.ensures c.in-Ok.is c.div_ceil.ensures
 
 pub returns-in-Err : goal.returns-in-Err
-returns-in-Err g c = open_unsound c.if-slots-lt-LEAST-SLOTS.false c.if-marks-lt-LEAST-SLOTS.false c.len-length.ensures c.limit.ensures c.if-length-limit.false c.lay-out-free.ensures c.lay-out-free-marks.ensures c.fill.ensures c.in-Err.is
+returns-in-Err g c = open_unsound c.if-slots-lt-LEAST_SLOTS.false c.if-marks-lt-LEAST_SLOTS.false c.len-length.ensures c.limit.ensures c.if-length-limit.false c.lay_out-free.ensures c.lay_out-free_marks.ensures c.fill.ensures c.in-Err.is

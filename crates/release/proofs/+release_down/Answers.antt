@@ -5,22 +5,22 @@ pub returns-in-Empty : goal.returns-in-Empty
 returns-in-Empty g t c = tree_nothing c.in-Empty.is
 
 pub returns-in-Single : goal.returns-in-Single
-returns-in-Single g t c = tree_one c.in-Single.is c.release-part.ensures
+returns-in-Single g t c = tree_one c.in-Single.is c.release_part.ensures
 
 pub returns-then-fuel-eq0 : goal.returns-then-fuel-eq0
 returns-then-fuel-eq0 g t c = tree_no_fuel c.in-Deep.is c.if-fuel-eq0.true
 
-pub returns-in-err-level : goal.returns-in-err-level
-returns-in-err-level g t c = tree_no_level c.in-Deep.is c.spine-at.ensures c.in-err-level.was
+pub returns-in_err-level-in-Deep : goal.returns-in_err-level-in-Deep
+returns-in_err-level-in-Deep g t c = tree_no_level c.in-Deep.is c.spine_at.ensures c.in_err-level-in-Deep.was
 
-pub returns-in-err-give-slot : goal.returns-in-err-give-slot
-returns-in-err-give-slot g t c = tree_no_gift c.in-Deep.is c.spine-at.ensures c.in-ok-level.was c.give-slot.ensures c.in-err-give-slot.was
+pub returns-in_err-give_slot-in-Deep : goal.returns-in_err-give_slot-in-Deep
+returns-in_err-give_slot-in-Deep g t c = tree_no_gift c.in-Deep.is c.spine_at.ensures c.in_ok-level-in-Deep.was c.give_slot.ensures c.in_err-give_slot-in-Deep.was
 
-pub returns-in-err-release-part : goal.returns-in-err-release-part
-returns-in-err-release-part g t c = tree_no_front c.in-Deep.is c.spine-at.ensures c.in-ok-level.was c.give-slot.ensures c.release-part-in-Deep.ensures c.in-err-release-part.was
+pub returns-in_err-release_part-in-Deep : goal.returns-in_err-release_part-in-Deep
+returns-in_err-release_part-in-Deep g t c = tree_no_front c.in-Deep.is c.spine_at.ensures c.in_ok-level-in-Deep.was c.give_slot.ensures c.release_part-in-Deep.ensures c.in_err-release_part-in-Deep.was
 
-pub returns-in-err-release-down : goal.returns-in-err-release-down
-returns-in-err-release-down g t c = tree_no_middle c.in-Deep.is c.spine-at.ensures c.in-ok-level.was c.give-slot.ensures c.release-part-in-Deep.ensures c.release-down.ensures c.in-err-release-down.was
+pub returns-in_err-release_down-in-Deep : goal.returns-in_err-release_down-in-Deep
+returns-in_err-release_down-in-Deep g t c = tree_no_middle c.in-Deep.is c.spine_at.ensures c.in_ok-level-in-Deep.was c.give_slot.ensures c.release_part-in-Deep.ensures c.release_down.ensures c.in_err-release_down-in-Deep.was
 
-pub returns-in-ok-release-down : goal.returns-in-ok-release-down
-returns-in-ok-release-down g t c = tree_freed c.in-Deep.is c.spine-at.ensures c.in-ok-level.was c.give-slot.ensures c.release-part-in-Deep.ensures c.release-down.ensures c.release-part-in-Deep-2.ensures
+pub returns-in_ok-release_down-in-Deep : goal.returns-in_ok-release_down-in-Deep
+returns-in_ok-release_down-in-Deep g t c = tree_freed c.in-Deep.is c.spine_at.ensures c.in_ok-level-in-Deep.was c.give_slot.ensures c.release_part-in-Deep.ensures c.release_down.ensures c.release_part-in-Deep-2.ensures

@@ -11,14 +11,14 @@ returns-in-None g t c = part_nothing c.in-None.is
 pub returns-then-fuel-eq0 : goal.returns-then-fuel-eq0
 returns-then-fuel-eq0 g t c = part_no_fuel c.in-Some.is c.if-fuel-eq0.true
 
-pub returns-in-err-below : goal.returns-in-err-below
-returns-in-err-below g t c = part_no_twig c.in-Some.is c.peel-first.ensures c.below-at.ensures c.in-err-below.was
+pub returns-in_err-below-in-Some : goal.returns-in_err-below-in-Some
+returns-in_err-below-in-Some g t c = part_no_twig c.in-Some.is c.peel-first.ensures c.below_at.ensures c.in_err-below-in-Some.was
 
-pub returns-in-err-give-slot : goal.returns-in-err-give-slot
-returns-in-err-give-slot g t c = part_no_gift c.in-Some.is c.peel-first.ensures c.below-at.ensures c.give-slot.ensures c.in-err-give-slot.was
+pub returns-in_err-give_slot-in-Some : goal.returns-in_err-give_slot-in-Some
+returns-in_err-give_slot-in-Some g t c = part_no_gift c.in-Some.is c.peel-first.ensures c.below_at.ensures c.give_slot.ensures c.in_err-give_slot-in-Some.was
 
-pub returns-in-err-release-part : goal.returns-in-err-release-part
-returns-in-err-release-part g t c = part_no_below c.in-Some.is c.peel-first.ensures c.below-at.ensures c.give-slot.ensures c.in-ok-below.was c.release-part.ensures c.in-err-release-part.was
+pub returns-in_err-release_part-in-Some : goal.returns-in_err-release_part-in-Some
+returns-in_err-release_part-in-Some g t c = part_no_below c.in-Some.is c.peel-first.ensures c.below_at.ensures c.give_slot.ensures c.in_ok-below-in-Some.was c.release_part.ensures c.in_err-release_part-in-Some.was
 
-pub returns-in-ok-release-part : goal.returns-in-ok-release-part
-returns-in-ok-release-part g t c = part_freed c.in-Some.is c.peel-first.ensures c.below-at.ensures c.give-slot.ensures c.in-ok-below.was c.release-part.ensures c.release-part-in-Some.ensures
+pub returns-in_ok-release_part-in-Some : goal.returns-in_ok-release_part-in-Some
+returns-in_ok-release_part-in-Some g t c = part_freed c.in-Some.is c.peel-first.ensures c.below_at.ensures c.give_slot.ensures c.in_ok-below-in-Some.was c.release_part.ensures c.release_part-in-Some.ensures

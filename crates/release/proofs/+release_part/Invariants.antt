@@ -2,5 +2,5 @@ use Rattle.std.proofs.Common.{◌+◌, ◌*◌}
 use Rattle.slots.specs.Sides.{count}
 use Rattle.release.proofs.+release_part.Given as goal
 
-abbrev pub decreases-release-part : goal.decreases-release-part
-decreases-release-part g l = 5 * l.fuel + count l.part
+abbrev pub decreases-release_part : goal.decreases-release_part
+decreases-release_part g l = 5 * l.fuel + count l.part

@@ -11,17 +11,17 @@ returns-in-None g t c = part_nothing c.in-None.is
 pub returns-then-fuel-eq0 : goal.returns-then-fuel-eq0
 returns-then-fuel-eq0 g t c = part_no_fuel c.in-Some.is c.if-fuel-eq0.true
 
-pub returns-in-err-below : goal.returns-in-err-below
-returns-in-err-below g t c = part_no_twig c.in-Some.is c.peel-first.ensures c.below-at.ensures c.in-err-below.was
+pub returns-in_err-below-in-Some : goal.returns-in_err-below-in-Some
+returns-in_err-below-in-Some g t c = part_no_twig c.in-Some.is c.peel-first.ensures c.below_at.ensures c.in_err-below-in-Some.was
 
-pub returns-in-err-give-slot : goal.returns-in-err-give-slot
-returns-in-err-give-slot g t c = part_no_gift c.in-Some.is c.peel-first.ensures c.below-at.ensures c.give-slot.ensures c.in-ok-below.was c.in-err-give-slot.was
+pub returns-in_err-give_slot-in-Some : goal.returns-in_err-give_slot-in-Some
+returns-in_err-give_slot-in-Some g t c = part_no_gift c.in-Some.is c.peel-first.ensures c.below_at.ensures c.give_slot.ensures c.in_ok-below-in-Some.was c.in_err-give_slot-in-Some.was
 
-pub returns-in-err-under : goal.returns-in-err-under
-returns-in-err-under g t c = part_no_below c.in-Some.is c.peel-first.ensures c.below-at.ensures c.give-slot.ensures c.in-ok-below.was c.release-part.ensures c.in-err-under.was
+pub returns-in_err-under-in-Some : goal.returns-in_err-under-in-Some
+returns-in_err-under-in-Some g t c = part_no_below c.in-Some.is c.peel-first.ensures c.below_at.ensures c.give_slot.ensures c.in_ok-below-in-Some.was c.release_part.ensures c.in_err-under-in-Some.was
 
-pub returns-in-err-others : goal.returns-in-err-others
-returns-in-err-others g t c = part_no_rest c.in-Some.is c.peel-first.ensures c.below-at.ensures c.give-slot.ensures c.in-ok-below.was c.release-part.ensures c.release-part-in-Some.ensures c.in-err-others.was
+pub returns-in_err-others-in-Some : goal.returns-in_err-others-in-Some
+returns-in_err-others-in-Some g t c = part_no_rest c.in-Some.is c.peel-first.ensures c.below_at.ensures c.give_slot.ensures c.in_ok-below-in-Some.was c.release_part.ensures c.release_part-in-Some.ensures c.in_err-others-in-Some.was
 
-pub returns-in-ok-others : goal.returns-in-ok-others
-returns-in-ok-others g t c = part_freed c.in-Some.is c.peel-first.ensures c.below-at.ensures c.give-slot.ensures c.in-ok-below.was c.release-part.ensures c.release-part-in-Some.ensures c.in-ok-under.was c.in-ok-others.was c.leaves.ensures c.saturating-add.ensures
+pub returns-in_ok-others-in-Some : goal.returns-in_ok-others-in-Some
+returns-in_ok-others-in-Some g t c = part_freed c.in-Some.is c.peel-first.ensures c.below_at.ensures c.give_slot.ensures c.in_ok-below-in-Some.was c.release_part.ensures c.release_part-in-Some.ensures c.in_ok-under-in-Some.was c.in_ok-others-in-Some.was c.leaves.ensures c.saturating_add.ensures

@@ -1,14 +1,14 @@
 use Rattle.asking.proofs.RowTurns.{later_lost, later_none, later_unread, later_found}
 use Rattle.asking.proofs.finding.find_row_after.Goals as goal
 
-pub returns-in-err-found : goal.returns-in-err-found
-returns-in-err-found g c = later_lost c.seek-after.ensures c.in-err-found.was
+pub returns-in_err-found : goal.returns-in_err-found
+returns-in_err-found g c = later_lost c.seek_after.ensures c.in_err-found.was
 
-pub returns-in-err-row : goal.returns-in-err-row
-returns-in-err-row g c = later_unread c.seek-after.ensures c.in-ok-found.was c.in-Some.is c.row-at.ensures c.in-err-row.was
+pub returns-in_err-row : goal.returns-in_err-row
+returns-in_err-row g c = later_unread c.seek_after.ensures c.in_ok-found.was c.in-Some.is c.row_at.ensures c.in_err-row.was
 
-pub returns-in-ok-row : goal.returns-in-ok-row
-returns-in-ok-row g c = later_found c.seek-after.ensures c.in-ok-found.was c.in-Some.is c.row-at.ensures c.in-ok-row.was
+pub returns-in_ok-row : goal.returns-in_ok-row
+returns-in_ok-row g c = later_found c.seek_after.ensures c.in_ok-found.was c.in-Some.is c.row_at.ensures c.in_ok-row.was
 
 pub returns-in-None : goal.returns-in-None
-returns-in-None g c = later_none c.seek-after.ensures c.in-ok-found.was c.in-None.is
+returns-in-None g c = later_none c.seek_after.ensures c.in_ok-found.was c.in-None.is

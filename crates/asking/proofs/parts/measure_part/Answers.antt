@@ -5,4 +5,4 @@ pub returns-then-part-eq0 : goal.returns-then-part-eq0
 returns-then-part-eq0 g c = part_empty c.if-part-eq0.true c.empty.ensures
 
 pub returns : goal.returns
-returns g c = part_read g.S.Store.lawful c.if-part-eq0.false c.measure-row.ensures
+returns g c = part_read g.S.Store.lawful c.if-part-eq0.false c.measure_row.ensures

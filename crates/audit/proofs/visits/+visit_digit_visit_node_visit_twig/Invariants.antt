@@ -1,11 +1,11 @@
 use Rattle.std.proofs.Common.{◌+◌, ◌*◌}
 use Rattle.audit.proofs.visits.+visit_digit_visit_node_visit_twig.Given as goal
 
-abbrev pub decreases-visit-digit : goal.decreases-visit-digit
-decreases-visit-digit g l = 3 * l.height + 2
+abbrev pub decreases-visit_digit : goal.decreases-visit_digit
+decreases-visit_digit g l = 3 * l.height + 2
 
-abbrev pub decreases-visit-node : goal.decreases-visit-node
-decreases-visit-node g l = 3 * l.height
+abbrev pub decreases-visit_node : goal.decreases-visit_node
+decreases-visit_node g l = 3 * l.height
 
-abbrev pub decreases-visit-twig : goal.decreases-visit-twig
-decreases-visit-twig g l = 3 * l.height + 1
+abbrev pub decreases-visit_twig : goal.decreases-visit_twig
+decreases-visit_twig g l = 3 * l.height + 1

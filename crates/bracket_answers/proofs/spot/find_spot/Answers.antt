@@ -1,17 +1,17 @@
 use Rattle.bracket_answers.proofs.Spotting.{spot_lost, spot_none, spot_no_piece, spot_unread, spot_found}
 use Rattle.bracket_answers.proofs.spot.find_spot.Goals as goal
 
-pub returns-in-err-found : goal.returns-in-err-found
-returns-in-err-found g c = spot_lost c.args.at c.empty-before.ensures c.find-row.ensures c.in-err-found.was
+pub returns-in_err-found : goal.returns-in_err-found
+returns-in_err-found g c = spot_lost c.args.at c.empty-before.ensures c.find_row.ensures c.in_err-found.was
 
-pub returns-in-err-stop : goal.returns-in-err-stop
-returns-in-err-stop g c = spot_unread c.args.at c.empty-before.ensures c.find-row.ensures c.in-ok-found.was c.in-Some.is c.in-Some-piece.ensures c.row-of.ensures c.saturating-sub.ensures c.saturating-add-count.ensures c.start.ensures c.scan.ensures c.in-err-stop.was
+pub returns-in_err-stop : goal.returns-in_err-stop
+returns-in_err-stop g c = spot_unread c.args.at c.empty-before.ensures c.find_row.ensures c.in_ok-found.was c.in-Some.is c.in-Some-piece.ensures c.row_of.ensures c.saturating_sub.ensures c.saturating_add-count.ensures c.start.ensures c.scan.ensures c.in_err-stop.was
 
-pub returns-in-ok-stop : goal.returns-in-ok-stop
-returns-in-ok-stop g c = spot_found c.args.at c.empty-before.ensures c.find-row.ensures c.in-ok-found.was c.in-Some.is c.in-Some-piece.ensures c.row-of.ensures c.saturating-sub.ensures c.saturating-add-count.ensures c.start.ensures c.scan.ensures c.in-ok-stop.was
+pub returns-in_ok-stop : goal.returns-in_ok-stop
+returns-in_ok-stop g c = spot_found c.args.at c.empty-before.ensures c.find_row.ensures c.in_ok-found.was c.in-Some.is c.in-Some-piece.ensures c.row_of.ensures c.saturating_sub.ensures c.saturating_add-count.ensures c.start.ensures c.scan.ensures c.in_ok-stop.was
 
 pub returns-in-None-piece : goal.returns-in-None-piece
-returns-in-None-piece g c = spot_no_piece c.args.at c.empty-before.ensures c.find-row.ensures c.in-ok-found.was c.in-Some.is g.S.Store.lawful c.in-None-piece.ensures
+returns-in-None-piece g c = spot_no_piece c.args.at c.empty-before.ensures c.find_row.ensures c.in_ok-found.was c.in-Some.is g.S.Store.lawful c.in-None-piece.ensures
 
 pub returns-in-None : goal.returns-in-None
-returns-in-None g c = spot_none c.args.at c.empty-before.ensures c.find-row.ensures c.in-ok-found.was c.in-None.is
+returns-in-None g c = spot_none c.args.at c.empty-before.ensures c.find_row.ensures c.in_ok-found.was c.in-None.is

@@ -6,10 +6,10 @@ pub loop-rest-preserved : goal.loop-rest-preserved
 loop-rest-preserved c =
     let some : 0 < length c.loop-rest.rest.now = some_left _ c.loop-rest-test.ensures in
     let i = c.loop-rest.number + 1 in
-    let short = c.first-line.ensures.shorter some in (
-      replies_round i _ _ c.loop-rest.rest.now c.first-line.result.0.now c.first-line.result.1.now _
-          (vec_items c.loop-rest.out) (vec_items c.print-reply.new.out) _
-          (c.first-line.ensures.lines some) (c.answer.ensures i) c.in-ok-print-reply.ensures c.loop-rest.invariant.0,
+    let short = c.first_line.ensures.shorter some in (
+      replies_round i _ _ c.loop-rest.rest.now c.first_line.result.0.now c.first_line.result.1.now _
+          (vec_items c.loop-rest.out) (vec_items c.print_reply.new.out) _
+          (c.first_line.ensures.lines some) (c.answer.ensures i) c.in_ok-print_reply.ensures c.loop-rest.invariant.0,
       omega (arith, c.loop-rest.invariant.1),
     )
 

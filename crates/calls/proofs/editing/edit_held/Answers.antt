@@ -13,6 +13,6 @@ returns-in-Err g c kind z = held_still g.A.Measure.means g.S.Store.bytes g.S.Sto
 pub returns-in-Discard : goal.returns-in-Discard
 returns-in-Discard g c kind z = held_done g.A.Measure.means g.S.Store.bytes g.S.Store.capacity g.S.Store.reads c.args.slots.now c.discard.new.slots c.args.marks.now c.args.marks.now c.args.store.now c.args.store.now z c.args.held c.discard.result c.in-Discard.is refl (λ m. refl) (unlent g.A.Measure.means g.S.Store.bytes g.S.Store.capacity g.S.Store.reads c.args.store.now (c.discard.ensures.edits c.args.marks.now (g.S.Store.bytes c.args.store.now) (g.S.Store.capacity c.args.store.now)))
 
-pub returns-in-default : goal.returns-in-default
-returns-in-default g c kind z =
-    not_allowed g.A.Measure.means g.S.Store.bytes g.S.Store.capacity g.S.Store.reads _ _ (λ m sp. held_rest c.args.call c.in-default.not-Paste c.in-default.not-Discard kind m (a_clip g.A.Measure.means g.S.Store.bytes g.S.Store.capacity g.S.Store.reads c.args.held c.args.slots.now c.args.marks.now c.args.store.now z m sp))
+pub returns-in_default : goal.returns-in_default
+returns-in_default g c kind z =
+    not_allowed g.A.Measure.means g.S.Store.bytes g.S.Store.capacity g.S.Store.reads _ _ (λ m sp. held_rest c.args.call c.in_default.not-Paste c.in_default.not-Discard kind m (a_clip g.A.Measure.means g.S.Store.bytes g.S.Store.capacity g.S.Store.reads c.args.held c.args.slots.now c.args.marks.now c.args.store.now z m sp))

@@ -1,4 +1,4 @@
 use Rattle.concat.proofs.joins.+concat_down.Given as goal
 
-abbrev pub decreases-concat-down : goal.decreases-concat-down
-decreases-concat-down g l = l.fuel
+abbrev pub decreases-concat_down : goal.decreases-concat_down
+decreases-concat_down g l = l.fuel

@@ -2,11 +2,11 @@ use Rattle.std.proofs.Common.{ℕ, ◌+◌, min, ap, ◌∙◌}
 use Rattle.edits.proofs.Doorsteps.{door_no_spot, cut_told}
 use Rattle.edits.proofs.doors.cut_door.Goals as goal
 
-pub returns-in-err-first : goal.returns-in-err-first
-returns-in-err-first g c = door_no_spot c.spot-at.ensures c.in-err-first.was
+pub returns-in_err-first : goal.returns-in_err-first
+returns-in_err-first g c = door_no_spot c.spot_at.ensures c.in_err-first.was
 
-pub returns-in-err-second : goal.returns-in-err-second
-returns-in-err-second g c = door_no_spot c.spot-at-2.ensures c.in-err-second.was
+pub returns-in_err-second : goal.returns-in_err-second
+returns-in_err-second g c = door_no_spot c.spot_at-2.ensures c.in_err-second.was
 
 pub returns : goal.returns
-returns g c = cut_told c.spot-at.ensures c.in-ok-first.was c.limit.ensures c.spot-at-2.ensures c.in-ok-second.was (c.saturating-add-all.ensures ∙ ap (λ (n : ℕ). min (n + c.in-ok-second.second.more) 4294967295) c.saturating-add.ensures) c.decide-cut.ensures
+returns g c = cut_told c.spot_at.ensures c.in_ok-first.was c.limit.ensures c.spot_at-2.ensures c.in_ok-second.was (c.saturating_add-all.ensures ∙ ap (λ (n : ℕ). min (n + c.in_ok-second.second.more) 4294967295) c.saturating_add.ensures) c.decide_cut.ensures

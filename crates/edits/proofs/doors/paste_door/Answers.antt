@@ -1,8 +1,8 @@
 use Rattle.edits.proofs.Doorsteps.{door_no_spot, paste_told}
 use Rattle.edits.proofs.doors.paste_door.Goals as goal
 
-pub returns-in-err-spot : goal.returns-in-err-spot
-returns-in-err-spot g c = door_no_spot c.spot-at.ensures c.in-err-spot.was
+pub returns-in_err-spot : goal.returns-in_err-spot
+returns-in_err-spot g c = door_no_spot c.spot_at.ensures c.in_err-spot.was
 
 pub returns : goal.returns
-returns g c = paste_told c.spot-at.ensures c.in-ok-spot.was c.limit.ensures c.saturating-add-all.ensures c.decide-paste.ensures
+returns g c = paste_told c.spot_at.ensures c.in_ok-spot.was c.limit.ensures c.saturating_add-all.ensures c.decide_paste.ensures

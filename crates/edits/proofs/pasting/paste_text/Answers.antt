@@ -1,11 +1,11 @@
 use Rattle.edits.proofs.PasteText.{paste_no_parts, paste_no_first, paste_made}
 use Rattle.edits.proofs.pasting.paste_text.Goals as goal
 
-pub returns-in-err-parts : goal.returns-in-err-parts
-returns-in-err-parts g c = paste_no_parts c.part-at.ensures c.args.clip c.in-err-parts.was
+pub returns-in_err-parts : goal.returns-in_err-parts
+returns-in_err-parts g c = paste_no_parts c.part_at.ensures c.args.clip c.in_err-parts.was
 
-pub returns-in-err-first : goal.returns-in-err-first
-returns-in-err-first g c = paste_no_first c.part-at.ensures c.args.clip c.in-ok-parts.was c.concat.ensures c.in-err-first.was
+pub returns-in_err-first : goal.returns-in_err-first
+returns-in_err-first g c = paste_no_first c.part_at.ensures c.args.clip c.in_ok-parts.was c.concat.ensures c.in_err-first.was
 
 pub returns : goal.returns
-returns g c = paste_made c.part-at.ensures c.args.clip c.in-ok-parts.was c.concat.ensures c.in-ok-first.was c.concat-2.ensures
+returns g c = paste_made c.part_at.ensures c.args.clip c.in_ok-parts.was c.concat.ensures c.in_ok-first.was c.concat-2.ensures

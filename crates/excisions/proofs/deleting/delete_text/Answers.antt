@@ -2,17 +2,17 @@ use Rattle.std.proofs.Common.{Ok, ap, ◌∙◌}
 use Rattle.excisions.proofs.DeleteText.{delete_no_open, delete_none, delete_no_parts, delete_no_tree, delete_made}
 use Rattle.excisions.proofs.deleting.delete_text.Goals as goal
 
-pub returns-in-err-found : goal.returns-in-err-found
-returns-in-err-found g c = delete_no_open c.open-at.ensures c.args.pieces c.args.to c.in-err-found.was
+pub returns-in_err-found : goal.returns-in_err-found
+returns-in_err-found g c = delete_no_open c.open_at.ensures c.args.pieces c.args.to c.in_err-found.was
 
 pub returns-in-None : goal.returns-in-None
-returns-in-None g c = delete_none c.open-at.ensures c.args.pieces c.args.to (c.in-ok-found.was ∙ ap Ok c.in-None.is)
+returns-in-None g c = delete_none c.open_at.ensures c.args.pieces c.args.to (c.in_ok-found.was ∙ ap Ok c.in-None.is)
 
-pub returns-in-err-parts : goal.returns-in-err-parts
-returns-in-err-parts g c = delete_no_parts c.open-at.ensures c.args.pieces c.args.to (c.in-ok-found.was ∙ ap Ok c.in-Some.is) c.saturating-sub.ensures c.drop-from.ensures c.in-err-parts.was
+pub returns-in_err-parts : goal.returns-in_err-parts
+returns-in_err-parts g c = delete_no_parts c.open_at.ensures c.args.pieces c.args.to (c.in_ok-found.was ∙ ap Ok c.in-Some.is) c.saturating_sub.ensures c.drop_from.ensures c.in_err-parts.was
 
-pub returns-in-err-all : goal.returns-in-err-all
-returns-in-err-all g c = delete_no_tree c.open-at.ensures c.args.pieces c.args.to (c.in-ok-found.was ∙ ap Ok c.in-Some.is) c.saturating-sub.ensures c.drop-from.ensures c.in-ok-parts.was c.close-up.ensures c.in-err-all.was
+pub returns-in_err-all : goal.returns-in_err-all
+returns-in_err-all g c = delete_no_tree c.open_at.ensures c.args.pieces c.args.to (c.in_ok-found.was ∙ ap Ok c.in-Some.is) c.saturating_sub.ensures c.drop_from.ensures c.in_ok-parts.was c.close_up.ensures c.in_err-all.was
 
-pub returns-in-ok-all : goal.returns-in-ok-all
-returns-in-ok-all g c = delete_made c.open-at.ensures c.args.pieces c.args.to (c.in-ok-found.was ∙ ap Ok c.in-Some.is) c.saturating-sub.ensures c.drop-from.ensures c.in-ok-parts.was c.close-up.ensures c.in-ok-all.was c.saturating-sub-kept.ensures c.one-part.ensures c.saturating-add.ensures c.one-part-in-Some.ensures c.saturating-add-in-Some.ensures
+pub returns-in_ok-all : goal.returns-in_ok-all
+returns-in_ok-all g c = delete_made c.open_at.ensures c.args.pieces c.args.to (c.in_ok-found.was ∙ ap Ok c.in-Some.is) c.saturating_sub.ensures c.drop_from.ensures c.in_ok-parts.was c.close_up.ensures c.in_ok-all.was c.saturating_sub-kept.ensures c.one_part.ensures c.saturating_add.ensures c.one_part-in-Some.ensures c.saturating_add-in-Some.ensures

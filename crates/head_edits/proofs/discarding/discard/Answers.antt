@@ -4,6 +4,6 @@ use Rattle.head_edits.proofs.discarding.discard.Goals as goal
 
 pub returns : goal.returns
 returns g c = record {
-  edits = discarded c.release.ensures (c.unwrap-or-gone.ensures ∙ ap (λ (o : Option ℕ). unwrap_or o 0) c.ok.ensures.value) c.saturating-sub.ensures;
+  edits = discarded c.release.ensures (c.unwrap_or-gone.ensures ∙ ap (λ (o : Option ℕ). unwrap_or o 0) c.ok.ensures.value) c.saturating_sub.ensures;
   clip = refl;
 }

@@ -5,6 +5,6 @@ use Rattle.lines.specs.Requests.{map_request}
 use Rattle.lines.proofs.Records.{nameless_two}
 use Rattle.lines.proofs.reading.two_fields.Goals as goal
 
-pub returns-in-err-letter : goal.returns-in-err-letter
-returns-in-err-letter c =
-    ap (option_map (map_request bytes_of)) c.from-residual.ensures ∙ nameless_two c.args.name.now c.in-err-letter.ensures c.args.field.now
+pub returns-in_err-letter : goal.returns-in_err-letter
+returns-in_err-letter c =
+    ap (option_map (map_request bytes_of)) c.from_residual.ensures ∙ nameless_two c.args.name.now c.in_err-letter.ensures c.args.field.now

@@ -2,17 +2,17 @@ use Rattle.std.proofs.Common.{Ok, ap, ◌∙◌}
 use Rattle.mark_moves.proofs.MarkDrops.{drop_no_parts, drop_no_release, drop_all, drop_no_front, drop_front_lem}
 use Rattle.mark_moves.proofs.shrinking.drop_marks.Goals as goal
 
-pub returns-in-err-found : goal.returns-in-err-found
-returns-in-err-found c = drop_no_parts c.args.left c.args.base c.part-marks.ensures c.in-err-found.was
+pub returns-in_err-found : goal.returns-in_err-found
+returns-in_err-found c = drop_no_parts c.args.left c.args.base c.part_marks.ensures c.in_err-found.was
 
-pub returns-in-err-release : goal.returns-in-err-release
-returns-in-err-release c = drop_no_release c.args.left c.args.base c.part-marks.ensures (c.in-ok-found.was ∙ ap Ok c.in-None.is) c.release.ensures c.in-err-release.was
+pub returns-in_err-release : goal.returns-in_err-release
+returns-in_err-release c = drop_no_release c.args.left c.args.base c.part_marks.ensures (c.in_ok-found.was ∙ ap Ok c.in-None.is) c.release.ensures c.in_err-release.was
 
-pub returns-in-ok-release : goal.returns-in-ok-release
-returns-in-ok-release c = drop_all c.args.left c.args.base c.part-marks.ensures (c.in-ok-found.was ∙ ap Ok c.in-None.is) c.release.ensures
+pub returns-in_ok-release : goal.returns-in_ok-release
+returns-in_ok-release c = drop_all c.args.left c.args.base c.part_marks.ensures (c.in_ok-found.was ∙ ap Ok c.in-None.is) c.release.ensures
 
-pub returns-in-err-release-2 : goal.returns-in-err-release-2
-returns-in-err-release-2 c = drop_no_front c.args.left c.args.base c.part-marks.ensures (c.in-ok-found.was ∙ ap Ok c.in-Some.is) c.release-in-Some.ensures c.in-err-release-2.was
+pub returns-in_err-release-2 : goal.returns-in_err-release-2
+returns-in_err-release-2 c = drop_no_front c.args.left c.args.base c.part_marks.ensures (c.in_ok-found.was ∙ ap Ok c.in-Some.is) c.release-in-Some.ensures c.in_err-release-2.was
 
-pub returns-in-ok-release-2 : goal.returns-in-ok-release-2
-returns-in-ok-release-2 c = drop_front_lem c.args.left c.args.base c.part-marks.ensures (c.in-ok-found.was ∙ ap Ok c.in-Some.is) c.release-in-Some.ensures c.saturating-add-offset.ensures c.saturating-sub.ensures c.join-moved.ensures
+pub returns-in_ok-release-2 : goal.returns-in_ok-release-2
+returns-in_ok-release-2 c = drop_front_lem c.args.left c.args.base c.part_marks.ensures (c.in_ok-found.was ∙ ap Ok c.in-Some.is) c.release-in-Some.ensures c.saturating_add-offset.ensures c.saturating_sub.ensures c.join_moved.ensures

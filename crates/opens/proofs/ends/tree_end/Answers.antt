@@ -5,7 +5,7 @@ pub returns-in-Empty : goal.returns-in-Empty
 returns-in-Empty g c = tree_ends_empty c.in-Empty.is
 
 pub returns-in-Single : goal.returns-in-Single
-returns-in-Single g c = tree_ends_single c.in-Single.is c.slot-end.ensures
+returns-in-Single g c = tree_ends_single c.in-Single.is c.slot_end.ensures
 
 pub returns-in-Deep : goal.returns-in-Deep
-returns-in-Deep g c = tree_ends_deep c.in-Deep.is c.slot-end-in-Deep.ensures
+returns-in-Deep g c = tree_ends_deep c.in-Deep.is c.slot_end-in-Deep.ensures

@@ -2,8 +2,8 @@ use Rattle.std.proofs.Common.{◌+◌, ◌*◌, Some}
 use Rattle.slots.specs.Sides.{count}
 use Rattle.opens.proofs.walk.+walk_digit_walk_slot.Given as goal
 
-abbrev pub decreases-walk-digit : goal.decreases-walk-digit
-decreases-walk-digit g l = 6 * l.height + count (Some l.digit)
+abbrev pub decreases-walk_digit : goal.decreases-walk_digit
+decreases-walk_digit g l = 6 * l.height + count (Some l.digit)
 
-abbrev pub decreases-walk-slot : goal.decreases-walk-slot
-decreases-walk-slot g l = 6 * l.height
+abbrev pub decreases-walk_slot : goal.decreases-walk_slot
+decreases-walk_slot g l = 6 * l.height

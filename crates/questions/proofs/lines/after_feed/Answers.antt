@@ -1,17 +1,17 @@
 use Rattle.questions.proofs.LinePaths.{feed_lost, feed_none, feed_no_piece, feed_unread, feed_found}
 use Rattle.questions.proofs.lines.after_feed.Goals as goal
 
-pub returns-in-err-found : goal.returns-in-err-found
-returns-in-err-found g c = feed_lost c.args.number c.empty-before.ensures c.find-row.ensures c.in-err-found.was
+pub returns-in_err-found : goal.returns-in_err-found
+returns-in_err-found g c = feed_lost c.args.number c.empty-before.ensures c.find_row.ensures c.in_err-found.was
 
-pub returns-in-err-inside : goal.returns-in-err-inside
-returns-in-err-inside g c = feed_unread c.args.number c.empty-before.ensures c.find-row.ensures c.in-ok-found.was c.in-Some.is c.in-Some-piece.ensures c.saturating-sub.ensures c.find-feed.ensures c.in-err-inside.was
+pub returns-in_err-inside : goal.returns-in_err-inside
+returns-in_err-inside g c = feed_unread c.args.number c.empty-before.ensures c.find_row.ensures c.in_ok-found.was c.in-Some.is c.in-Some-piece.ensures c.saturating_sub.ensures c.find_feed.ensures c.in_err-inside.was
 
-pub returns-in-ok-inside : goal.returns-in-ok-inside
-returns-in-ok-inside g c = feed_found c.args.number c.empty-before.ensures c.find-row.ensures c.in-ok-found.was c.in-Some.is c.in-Some-piece.ensures c.saturating-sub.ensures c.find-feed.ensures c.in-ok-inside.was c.saturating-add.ensures
+pub returns-in_ok-inside : goal.returns-in_ok-inside
+returns-in_ok-inside g c = feed_found c.args.number c.empty-before.ensures c.find_row.ensures c.in_ok-found.was c.in-Some.is c.in-Some-piece.ensures c.saturating_sub.ensures c.find_feed.ensures c.in_ok-inside.was c.saturating_add.ensures
 
 pub returns-in-None-piece : goal.returns-in-None-piece
-returns-in-None-piece g c = feed_no_piece c.args.number c.empty-before.ensures c.find-row.ensures c.in-ok-found.was c.in-Some.is g.S.Store.lawful c.in-None-piece.ensures
+returns-in-None-piece g c = feed_no_piece c.args.number c.empty-before.ensures c.find_row.ensures c.in_ok-found.was c.in-Some.is g.S.Store.lawful c.in-None-piece.ensures
 
 pub returns-in-None : goal.returns-in-None
-returns-in-None g c = feed_none c.args.number c.empty-before.ensures c.find-row.ensures c.in-ok-found.was c.in-None.is
+returns-in-None g c = feed_none c.args.number c.empty-before.ensures c.find_row.ensures c.in_ok-found.was c.in-None.is

@@ -8,4 +8,4 @@ pub returns-then-line-eq1 : goal.returns-then-line-eq1
 returns-then-line-eq1 g c = line_first c.if-line-eq1.true
 
 pub returns : goal.returns
-returns g c = line_later c.if-line-eq0.false c.if-line-eq1.false c.after-feed.ensures
+returns g c = line_later c.if-line-eq0.false c.if-line-eq1.false c.after_feed.ensures

@@ -7,9 +7,9 @@ use Rattle.script.proofs.answering.answer.Goals as goal
 pub returns-in-Ok : goal.returns-in-Ok
 returns-in-Ok c i =
     step_call i c.args.text.now _ (map_call bytes_of c.in-Call.call) (Ok c.in-Ok.answer)
-    (ap (λ q. Some (map_request bytes_of q)) (sym c.in-Call.is) ∙ c.in-ok-read-line.ensures.value) c.in-Ok.ensures
+    (ap (λ q. Some (map_request bytes_of q)) (sym c.in-Call.is) ∙ c.in_ok-read_line.ensures.value) c.in-Ok.ensures
 
 pub returns-in-Err : goal.returns-in-Err
 returns-in-Err c i =
     step_call i c.args.text.now _ (map_call bytes_of c.in-Call.call) (Err c.in-Err.fault)
-    (ap (λ q. Some (map_request bytes_of q)) (sym c.in-Call.is) ∙ c.in-ok-read-line.ensures.value) c.in-Err.ensures
+    (ap (λ q. Some (map_request bytes_of q)) (sym c.in-Call.is) ∙ c.in_ok-read_line.ensures.value) c.in-Err.ensures

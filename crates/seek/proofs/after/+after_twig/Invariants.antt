@@ -1,4 +1,4 @@
 use Rattle.seek.proofs.after.+after_twig.Given as goal
 
-abbrev pub decreases-after-twig : goal.decreases-after-twig
-decreases-after-twig g l = l.height
+abbrev pub decreases-after_twig : goal.decreases-after_twig
+decreases-after_twig g l = l.height

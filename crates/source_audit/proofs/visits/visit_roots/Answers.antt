@@ -7,11 +7,11 @@ use Rattle.source_audit.proofs.visits.visit_roots.Goals as goal
 pub loop-root-init : goal.loop-root-init
 loop-root-init g c m r h = h
 
-pub returns-in-err-visit-tree : goal.returns-in-err-visit-tree
-returns-in-err-visit-tree g c = roots_stop c.loop-root.invariant (drop_more c.args.roots.now c.loop-root.root-index Empty c.loop-root-test.true) _ _ c.visit-tree.ensures (ap is_err c.in-err-visit-tree.was) c.from-residual.ensures.0
+pub returns-in_err-visit_tree : goal.returns-in_err-visit_tree
+returns-in_err-visit_tree g c = roots_stop c.loop-root.invariant (drop_more c.args.roots.now c.loop-root.root-index Empty c.loop-root-test.true) _ _ c.visit_tree.ensures (ap is_err c.in_err-visit_tree.was) c.from_residual.ensures.0
 
 pub loop-root-preserved : goal.loop-root-preserved
-loop-root-preserved g c = roots_more c.loop-root.invariant (drop_more c.args.roots.now c.loop-root.root-index Empty c.loop-root-test.true) c.visit-tree.ensures c.in-ok-visit-tree.was
+loop-root-preserved g c = roots_more c.loop-root.invariant (drop_more c.args.roots.now c.loop-root.root-index Empty c.loop-root-test.true) c.visit_tree.ensures c.in_ok-visit_tree.was
 
 pub returns : goal.returns
 returns g c = roots_end c.loop-root.invariant (drop_all c.loop-root.root-index c.args.roots.now c.loop-root-test.false)

@@ -1,11 +1,11 @@
 use Rattle.split.proofs.Edges.{edge_no_inner, edge_no_outer, edge_ok}
 use Rattle.split.proofs.halves.edge.Goals as goal
 
-pub returns-in-err-inner : goal.returns-in-err-inner
-returns-in-err-inner g c = edge_no_inner c.args.level c.args.cut c.pick-far.ensures c.flip.ensures c.part-near.ensures c.deep.ensures c.in-err-inner.was
+pub returns-in_err-inner : goal.returns-in_err-inner
+returns-in_err-inner g c = edge_no_inner c.args.level c.args.cut c.pick-far.ensures c.flip.ensures c.part-near.ensures c.deep.ensures c.in_err-inner.was
 
-pub returns-in-err-outer : goal.returns-in-err-outer
-returns-in-err-outer g c = edge_no_outer c.args.level c.args.cut c.pick-far.ensures c.flip.ensures c.part-near.ensures c.deep.ensures c.part.ensures c.plant.ensures c.in-err-outer.was
+pub returns-in_err-outer : goal.returns-in_err-outer
+returns-in_err-outer g c = edge_no_outer c.args.level c.args.cut c.pick-far.ensures c.flip.ensures c.part-near.ensures c.deep.ensures c.part.ensures c.plant.ensures c.in_err-outer.was
 
 pub returns : goal.returns
-returns g c = edge_ok c.args.level c.args.cut c.pick-far.ensures c.flip.ensures c.part-near.ensures c.deep.ensures c.part.ensures c.plant.ensures c.in-ok-inner.was c.in-ok-outer.was c.new.ensures
+returns g c = edge_ok c.args.level c.args.cut c.pick-far.ensures c.flip.ensures c.part-near.ensures c.deep.ensures c.part.ensures c.plant.ensures c.in_ok-inner.was c.in_ok-outer.was c.new.ensures

@@ -5,10 +5,10 @@ pub loop-i-init : goal.loop-i-init
 loop-i-init g c = scanning_none (g.S.Store.lawful.stops c.args.store.now)
 
 pub loop-i-preserved : goal.loop-i-preserved
-loop-i-preserved g c = scanning_more c.loop-i-test.true c.args.piece.short c.loop-i.invariant c.in-Some.ensures c.and-byte-after.ensures c.is-reached.ensures c.if-is-reached.false
+loop-i-preserved g c = scanning_more c.loop-i-test.true c.args.piece.short c.loop-i.invariant c.in-Some.ensures c.and_byte-after.ensures c.is_reached.ensures c.if-is_reached.false
 
-pub returns-then-is-reached : goal.returns-then-is-reached
-returns-then-is-reached g c = scanning_stops c.loop-i-test.true c.args.piece.short c.loop-i.invariant c.in-Some.ensures c.and-byte-after.ensures c.is-reached.ensures c.if-is-reached.true
+pub returns-then-is_reached : goal.returns-then-is_reached
+returns-then-is_reached g c = scanning_stops c.loop-i-test.true c.args.piece.short c.loop-i.invariant c.in-Some.ensures c.and_byte-after.ensures c.is_reached.ensures c.if-is_reached.true
 
 pub returns-in-None : goal.returns-in-None
 returns-in-None g c = scanning_past c.loop-i-test.true c.args.piece.short c.loop-i.invariant c.in-None.ensures

@@ -4,8 +4,8 @@ use Rattle.tree.proofs.build.plant.Goals as goal
 pub returns-in-None : goal.returns-in-None
 returns-in-None g c = plant_none c.in-None.is
 
-pub returns-in-ok-i : goal.returns-in-ok-i
-returns-in-ok-i g c = plant_some c.in-Some.is c.take-slot.ensures c.in-ok-i.was c.replant.ensures
+pub returns-in_ok-i-in-Some : goal.returns-in_ok-i-in-Some
+returns-in_ok-i-in-Some g c = plant_some c.in-Some.is c.take_slot.ensures c.in_ok-i-in-Some.was c.replant.ensures
 
-pub returns-in-err-i : goal.returns-in-err-i
-returns-in-err-i g c = plant_no_slot c.take-slot.ensures c.in-err-i.was
+pub returns-in_err-i-in-Some : goal.returns-in_err-i-in-Some
+returns-in_err-i-in-Some g c = plant_no_slot c.take_slot.ensures c.in_err-i-in-Some.was

@@ -1,11 +1,11 @@
 use Rattle.tree.proofs.Shrinking.{replant_one, replant_no_gift, replant_two, replant_three, replant_four}
 use Rattle.tree.proofs.build.replant.Goals as goal
 
-pub returns-in-ok-give-slot : goal.returns-in-ok-give-slot
-returns-in-ok-give-slot g c = replant_one c.in-One.is c.give-slot.ensures
+pub returns-in_ok-give_slot-in-One : goal.returns-in_ok-give_slot-in-One
+returns-in_ok-give_slot-in-One g c = replant_one c.in-One.is c.give_slot.ensures
 
-pub returns-in-err-give-slot : goal.returns-in-err-give-slot
-returns-in-err-give-slot g c = replant_no_gift c.give-slot.ensures c.in-err-give-slot.was
+pub returns-in_err-give_slot-in-One : goal.returns-in_err-give_slot-in-One
+returns-in_err-give_slot-in-One g c = replant_no_gift c.give_slot.ensures c.in_err-give_slot-in-One.was
 
 pub returns-in-Two : goal.returns-in-Two
 returns-in-Two g c = replant_two c.in-Two.is c.settle.ensures

@@ -13,11 +13,11 @@ returns-in-Single g t c = deep_single c.in-None.is c.in-Single.is c.refill.ensur
 pub returns-then-fuel-eq0 : goal.returns-then-fuel-eq0
 returns-then-fuel-eq0 g t c = deep_no_fuel c.in-None.is c.in-Deep.is c.if-fuel-eq0.true
 
-pub returns-in-err-level : goal.returns-in-err-level
-returns-in-err-level g t c = deep_no_level c.in-None.is c.in-Deep.is c.spine-at.ensures c.in-err-level.was
+pub returns-in_err-level-in-Deep : goal.returns-in_err-level-in-Deep
+returns-in_err-level-in-Deep g t c = deep_no_level c.in-None.is c.in-Deep.is c.spine_at.ensures c.in_err-level-in-Deep.was
 
-pub returns-in-ok-rest : goal.returns-in-ok-rest
-returns-in-ok-rest g t c = deep_roll c.in-None.is c.in-Deep.is c.spine-at.ensures c.in-ok-level.was c.pick.ensures c.peel-first.ensures c.flip.ensures c.pick-other.ensures c.deep.ensures c.in-ok-rest.was c.refill-in-Deep.ensures
+pub returns-in_ok-rest-in-Deep : goal.returns-in_ok-rest-in-Deep
+returns-in_ok-rest-in-Deep g t c = deep_roll c.in-None.is c.in-Deep.is c.spine_at.ensures c.in_ok-level-in-Deep.was c.pick.ensures c.peel-first.ensures c.flip.ensures c.pick-other.ensures c.deep.ensures c.in_ok-rest-in-Deep.was c.refill-in-Deep.ensures
 
-pub returns-in-err-rest : goal.returns-in-err-rest
-returns-in-err-rest g t c = deep_no_rest c.in-None.is c.in-Deep.is c.spine-at.ensures c.in-ok-level.was c.pick.ensures c.peel-first.ensures c.flip.ensures c.pick-other.ensures c.deep.ensures c.in-err-rest.was
+pub returns-in_err-rest-in-Deep : goal.returns-in_err-rest-in-Deep
+returns-in_err-rest-in-Deep g t c = deep_no_rest c.in-None.is c.in-Deep.is c.spine_at.ensures c.in_ok-level-in-Deep.was c.pick.ensures c.peel-first.ensures c.flip.ensures c.pick-other.ensures c.deep.ensures c.in_err-rest-in-Deep.was

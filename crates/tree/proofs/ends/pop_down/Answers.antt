@@ -8,11 +8,11 @@ returns-in-Empty g c = pop_empty c.in-Empty.is
 pub returns-in-Single : goal.returns-in-Single
 returns-in-Single g c = pop_single c.in-Single.is refl refl
 
-pub returns-in-err-level : goal.returns-in-err-level
-returns-in-err-level g c = pop_no_level c.in-Deep.is c.spine-at.ensures c.in-err-level.was
+pub returns-in_err-level-in-Deep : goal.returns-in_err-level-in-Deep
+returns-in_err-level-in-Deep g c = pop_no_level c.in-Deep.is c.spine_at.ensures c.in_err-level-in-Deep.was
 
-pub returns-in-ok-rest : goal.returns-in-ok-rest
-returns-in-ok-rest g c = pop_off c.in-Deep.is c.spine-at.ensures c.in-ok-level.was c.pick.ensures c.peel-first.ensures c.flip.ensures c.pick-other.ensures c.deep.ensures c.in-ok-rest.was refl refl
+pub returns-in_ok-rest-in-Deep : goal.returns-in_ok-rest-in-Deep
+returns-in_ok-rest-in-Deep g c = pop_off c.in-Deep.is c.spine_at.ensures c.in_ok-level-in-Deep.was c.pick.ensures c.peel-first.ensures c.flip.ensures c.pick-other.ensures c.deep.ensures c.in_ok-rest-in-Deep.was refl refl
 
-pub returns-in-err-rest : goal.returns-in-err-rest
-returns-in-err-rest g c = pop_no_rest c.in-Deep.is c.spine-at.ensures c.in-ok-level.was c.pick.ensures c.peel-first.ensures c.flip.ensures c.pick-other.ensures c.deep.ensures c.in-err-rest.was
+pub returns-in_err-rest-in-Deep : goal.returns-in_err-rest-in-Deep
+returns-in_err-rest-in-Deep g c = pop_no_rest c.in-Deep.is c.spine_at.ensures c.in_ok-level-in-Deep.was c.pick.ensures c.peel-first.ensures c.flip.ensures c.pick-other.ensures c.deep.ensures c.in_err-rest-in-Deep.was

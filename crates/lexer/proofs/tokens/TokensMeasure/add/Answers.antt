@@ -11,11 +11,11 @@ loop-s-preserved c =
     let i = c.loop-s.s in
     let here = λ (bs : List ℕ) (e : c.args.a.now ≡ reading bs).
     c.loop-s.invariant.2 i (omega arith) ∙ ap (λ rows. get_or rows i (start 0)) e ∙ row_read bs i (start 0) c.loop-s-test.true in (
-      length-set c.loop-s.a i c.and-byte.result ∙ c.loop-s.invariant.0,
+      length-set c.loop-s.a i c.and_byte.result ∙ c.loop-s.invariant.0,
       rows_more (λ k r. (bs : List ℕ) → length bs < heaviest → c.args.a.now ≡ reading bs → r ≡ read_from_lem k (bs ++ (c.args.item ∷ [])))
-          c.and-byte.result c.loop-s.a i (omega arith) c.loop-s.invariant.1
-          (λ bs light e. c.and-byte.ensures i bs light (here bs e)),
-      rows_after c.and-byte.result c.loop-s.a c.args.a.now i c.loop-s.invariant.2,
+          c.and_byte.result c.loop-s.a i (omega arith) c.loop-s.invariant.1
+          (λ bs light e. c.and_byte.ensures i bs light (here bs e)),
+      rows_after c.and_byte.result c.loop-s.a c.args.a.now i c.loop-s.invariant.2,
     )
 
 pub returns : goal.returns

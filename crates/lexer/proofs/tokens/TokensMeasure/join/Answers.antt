@@ -9,12 +9,12 @@ use Rattle.lexer.proofs.tokens.TokensMeasure.join.Goals as goal
 
 pub loop-s-preserved : goal.loop-s-preserved
 loop-s-preserved c = (
-  length-set c.loop-s.rows c.loop-s.s c.and-row.result ∙ c.loop-s.invariant.0,
+  length-set c.loop-s.rows c.loop-s.s c.and_row.result ∙ c.loop-s.invariant.0,
   rows_more (λ k r. (xs ys : List ℕ) → length (xs ++ ys) ≤ heaviest → c.args.a.now ≡ reading xs → c.args.b.now ≡ reading ys → r ≡ read_from_lem k (xs ++ ys))
-      c.and-row.result c.loop-s.rows c.loop-s.s (omega arith) c.loop-s.invariant.1
+      c.and_row.result c.loop-s.rows c.loop-s.s (omega arith) c.loop-s.invariant.1
       (λ xs ys light e f.
       let here : get_or c.args.a.now c.loop-s.s (start 0) ≡ read_from_lem c.loop-s.s xs = ap (λ rows. get_or rows c.loop-s.s (start 0)) e ∙ row_read xs c.loop-s.s (start 0) c.loop-s-test.true in
-      c.and-row.ensures c.loop-s.s xs ys light here (c.row-of.ensures ∙ row_next c.args.b.now c.loop-s.s xs ys _ (omega arith) here f)),
+      c.and_row.ensures c.loop-s.s xs ys light here (c.row_of.ensures ∙ row_next c.args.b.now c.loop-s.s xs ys _ (omega arith) here f)),
 )
 
 pub returns : goal.returns

@@ -15,7 +15,7 @@ loop-i-preserved c =
     let ds = c.args.self.now.digits.now in
     let h : 2 * c.loop-i.i + 1 < length ds = omega (arith, length_paired ds) in
     let e = paired_more ds c.loop-i.i h in
-    (move_one _ _ _ _ _ _ c.loop-i.invariant.0 c.push-reserved.ensures.items (cc), omega arith)
+    (move_one _ _ _ _ _ _ c.loop-i.invariant.0 c.push_reserved.ensures.items (cc), omega arith)
 
 pub returns : goal.returns
 returns c =
