@@ -104,7 +104,7 @@ module _ {R I V : Type 0} {weigh : I → ℕ} {means : List I → V} where
     over_grouped : {q : Result (Option Digit) Unsound} {n₁ : ℕ} → p ≡ Ok n₁ → q ≡ added batch.made n₁ → (items : R → List I) (W : Option (Arm R V)) (A : Arm R V) (u : Twig R V) (n : ℕ) (ns : List ℕ) (k : ℕ) (G : Overed Back A u kd pd)
         → Stock weigh means items rs f batch W A (n ∷ ns) k → Coming weigh means items rs W A (Some (a1 u)) (n ∷ ns) k → Grouped (mean means items) rs rs₁ f₁ q W G.parts n ns k
     over_grouped got ad items W A u n ns k G S C =
-        grouped np got ad items W G.parts n ns k S.made_is (omega (arith, C.count, G.full)) G.node G.parts_is S.first S.chain S.fits (G.Fit-Parts (mean means items) rs k S.fit)
+        grouped np got ad items W G.parts n ns k S.made_is (omega (arith, C.count, G.full)) G.node G.parts_is S.first S.chain S.fits (G.fit_parts (mean means items) rs k S.fit)
         (over_light items W A u (n ∷ ns) k G C) (λ j. omega (arith, C.once j, G.occs j))
 
     over_fed : {q : Result (Option Digit) Unsound} {n₁ : ℕ} {made : Option Digit} {b : Batch} → p ≡ Ok n₁ → q ≡ added batch.made n₁ → q ≡ Ok made → b.made ≡ made → b.rest ≡ kd
@@ -145,7 +145,7 @@ module _ {R I V : Type 0} {weigh : I → ℕ} {means : List I → V} where
         → Stock weigh means items rs f batch W A fs k → Coming weigh means items rs W A (Some (a1 u)) fs k → ⊥
     no_node_go bad items W A u [] k G S C = omega (arith, S.supply, C.count, G.full)
     no_node_go bad items W A u (n ∷ ns) k G S C =
-        ok_err (node_done np items G.parts n ns k G.node G.parts_is S.first S.chain (G.Fit-Parts (mean means items) rs k S.fit) (over_light items W A u (n ∷ ns) k G C) (λ j. omega (arith, C.once j, G.occs j))).ok bad
+        ok_err (node_done np items G.parts n ns k G.node G.parts_is S.first S.chain (G.fit_parts (mean means items) rs k S.fit) (over_light items W A u (n ∷ ns) k G C) (λ j. omega (arith, C.once j, G.occs j))).ok bad
 
     no_room_go : {q : Result (Option Digit) Unsound} {n₁ : ℕ} {e : Unsound} → p ≡ Ok n₁ → q ≡ added batch.made n₁ → q ≡ Err e → (items : R → List I) (W : Option (Arm R V)) (A : Arm R V) (u : Twig R V) (fs : List ℕ) (k : ℕ) (G : Overed Back A u kd pd)
         → Stock weigh means items rs f batch W A fs k → Coming weigh means items rs W A (Some (a1 u)) fs k → ⊥

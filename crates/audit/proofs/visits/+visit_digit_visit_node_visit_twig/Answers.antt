@@ -15,25 +15,25 @@ pub visit_digit-returns-in_ok-visit_twig-in-Two : goal.visit_digit-returns-in_ok
 visit_digit-returns-in_ok-visit_twig-in-Two g t c = digit_two _ c.in-Two.is (seq _ (sole_twig _ _ _) c.visit_twig-in-Two.ensures c.in_ok-visit_twig-in-Two.was c.visit_twig-in-Two-2.ensures)
 
 pub visit_digit-returns-in_err-visit_twig-in-Three : goal.visit_digit-returns-in_err-visit_twig-in-Three
-visit_digit-returns-in_err-visit_twig-in-Three g t c = digit_three _ c.in-Three.is (stop (twig_at _ _ _) (Err unsound) _ (stop (twig_at _ _ _) _ _ c.visit_twig-in-Three.ensures (ap is_err c.in_err-visit_twig-in-Three.was) refl) refl c.from_residual-in_err-visit_twig-in-Three-2.ensures.0)
+visit_digit-returns-in_err-visit_twig-in-Three g t c = digit_three _ c.in-Three.is (stop (twig_at _ _ _) (Err unsound) _ (stop (twig_at _ _ _) _ _ c.visit_twig-in-Three.ensures (ap is_err c.in_err-visit_twig-in-Three.was) refl) refl c.from_residual-in_err-visit_twig-in-Three.ensures.0)
 
 pub visit_digit-returns-in_err-visit_twig-in-Three-2 : goal.visit_digit-returns-in_err-visit_twig-in-Three-2
-visit_digit-returns-in_err-visit_twig-in-Three-2 g t c = digit_three _ c.in-Three.is (stop (twig_at _ _ _) _ _ (seq _ (sole_twig _ _ _) c.visit_twig-in-Three.ensures c.in_ok-visit_twig-in-Three.was c.visit_twig-in-Three-2.ensures) (ap is_err c.in_err-visit_twig-in-Three-2.was) c.from_residual-in_err-visit_twig-in-Four.ensures.0)
+visit_digit-returns-in_err-visit_twig-in-Three-2 g t c = digit_three _ c.in-Three.is (stop (twig_at _ _ _) _ _ (seq _ (sole_twig _ _ _) c.visit_twig-in-Three.ensures c.in_ok-visit_twig-in-Three.was c.visit_twig-in-Three-2.ensures) (ap is_err c.in_err-visit_twig-in-Three-2.was) c.from_residual-in_err-visit_twig-in-Three-2.ensures.0)
 
 pub visit_digit-returns-in_err-visit_twig-in-Four : goal.visit_digit-returns-in_err-visit_twig-in-Four
-visit_digit-returns-in_err-visit_twig-in-Four g t c = digit_four _ c.in-Four.is (stop (twig_at _ _ _) (Err unsound) _ (stop (twig_at _ _ _) (Err unsound) (Err unsound) (stop (twig_at _ _ _) _ _ c.visit_twig-in-Four.ensures (ap is_err c.in_err-visit_twig-in-Four.was) refl) refl refl) refl c.from_residual-in_err-visit_twig-in-Four-2.ensures.0)
+visit_digit-returns-in_err-visit_twig-in-Four g t c = digit_four _ c.in-Four.is (stop (twig_at _ _ _) (Err unsound) _ (stop (twig_at _ _ _) (Err unsound) (Err unsound) (stop (twig_at _ _ _) _ _ c.visit_twig-in-Four.ensures (ap is_err c.in_err-visit_twig-in-Four.was) refl) refl refl) refl c.from_residual-in_err-visit_twig-in-Four.ensures.0)
 
 pub visit_digit-returns-in_err-visit_twig-in-Four-2 : goal.visit_digit-returns-in_err-visit_twig-in-Four-2
-visit_digit-returns-in_err-visit_twig-in-Four-2 g t c = digit_four _ c.in-Four.is (stop (twig_at _ _ _) (Err unsound) _ (stop (twig_at _ _ _) _ _ (seq _ (sole_twig _ _ _) c.visit_twig-in-Four.ensures c.in_ok-visit_twig-in-Four.was c.visit_twig-in-Four-2.ensures) (ap is_err c.in_err-visit_twig-in-Four-2.was) refl) refl c.from_residual-in_err-visit_twig-in-Four-3.ensures.0)
+visit_digit-returns-in_err-visit_twig-in-Four-2 g t c = digit_four _ c.in-Four.is (stop (twig_at _ _ _) (Err unsound) _ (stop (twig_at _ _ _) _ _ (seq _ (sole_twig _ _ _) c.visit_twig-in-Four.ensures c.in_ok-visit_twig-in-Four.was c.visit_twig-in-Four-2.ensures) (ap is_err c.in_err-visit_twig-in-Four-2.was) refl) refl c.from_residual-in_err-visit_twig-in-Four-2.ensures.0)
 
 pub visit_digit-returns-in_err-visit_twig-in-Four-3 : goal.visit_digit-returns-in_err-visit_twig-in-Four-3
-visit_digit-returns-in_err-visit_twig-in-Four-3 g t c = digit_four _ c.in-Four.is (stop (twig_at _ _ _) _ _ (seq _ (sole_both (twig_at _ _ _) (twig_at _ _ _) (sole_twig _ _ _) (sole_twig _ _ _)) (seq _ (sole_twig _ _ _) c.visit_twig-in-Four.ensures c.in_ok-visit_twig-in-Four.was c.visit_twig-in-Four-2.ensures) c.in_ok-visit_twig-in-Four-2.was c.visit_twig-in-Four-3.ensures) (ap is_err c.in_err-visit_twig-in-Four-3.was) c.from_residual-in_err-visit_twig-6.ensures.0)
+visit_digit-returns-in_err-visit_twig-in-Four-3 g t c = digit_four _ c.in-Four.is (stop (twig_at _ _ _) _ _ (seq _ (sole_both (twig_at _ _ _) (twig_at _ _ _) (sole_twig _ _ _) (sole_twig _ _ _)) (seq _ (sole_twig _ _ _) c.visit_twig-in-Four.ensures c.in_ok-visit_twig-in-Four.was c.visit_twig-in-Four-2.ensures) c.in_ok-visit_twig-in-Four-2.was c.visit_twig-in-Four-3.ensures) (ap is_err c.in_err-visit_twig-in-Four-3.was) c.from_residual-in_err-visit_twig-in-Four-3.ensures.0)
+
+pub visit_digit-returns-in_ok-visit_twig-in-Three-2 : goal.visit_digit-returns-in_ok-visit_twig-in-Three-2
+visit_digit-returns-in_ok-visit_twig-in-Three-2 g t c = digit_three _ c.in-Three.is (seq _ (sole_both (twig_at _ _ _) (twig_at _ _ _) (sole_twig _ _ _) (sole_twig _ _ _)) (seq _ (sole_twig _ _ _) c.visit_twig-in-Three.ensures c.in_ok-visit_twig-in-Three.was c.visit_twig-in-Three-2.ensures) c.in_ok-visit_twig-in-Three-2.was c.visit_twig-in-Three-3.ensures)
 
 pub visit_digit-returns-in_ok-visit_twig-in-Four-3 : goal.visit_digit-returns-in_ok-visit_twig-in-Four-3
-visit_digit-returns-in_ok-visit_twig-in-Four-3 g t c = digit_three _ c.in-Three.is (seq _ (sole_both (twig_at _ _ _) (twig_at _ _ _) (sole_twig _ _ _) (sole_twig _ _ _)) (seq _ (sole_twig _ _ _) c.visit_twig-in-Three.ensures c.in_ok-visit_twig-in-Three.was c.visit_twig-in-Three-2.ensures) c.in_ok-visit_twig-in-Three-2.was c.visit_twig-in-Three-3.ensures)
-
-pub visit_digit-returns-in_ok-visit_twig-6 : goal.visit_digit-returns-in_ok-visit_twig-6
-visit_digit-returns-in_ok-visit_twig-6 g t c = digit_four _ c.in-Four.is (seq _ (sole_both (both (twig_at _ _ _) (twig_at _ _ _)) (twig_at _ _ _) (sole_both (twig_at _ _ _) (twig_at _ _ _) (sole_twig _ _ _) (sole_twig _ _ _)) (sole_twig _ _ _)) (seq _ (sole_both (twig_at _ _ _) (twig_at _ _ _) (sole_twig _ _ _) (sole_twig _ _ _)) (seq _ (sole_twig _ _ _) c.visit_twig-in-Four.ensures c.in_ok-visit_twig-in-Four.was c.visit_twig-in-Four-2.ensures) c.in_ok-visit_twig-in-Four-2.was c.visit_twig-in-Four-3.ensures) c.in_ok-visit_twig-in-Four-3.was c.visit_twig-in-Four-4.ensures)
+visit_digit-returns-in_ok-visit_twig-in-Four-3 g t c = digit_four _ c.in-Four.is (seq _ (sole_both (both (twig_at _ _ _) (twig_at _ _ _)) (twig_at _ _ _) (sole_both (twig_at _ _ _) (twig_at _ _ _) (sole_twig _ _ _) (sole_twig _ _ _)) (sole_twig _ _ _)) (seq _ (sole_both (twig_at _ _ _) (twig_at _ _ _) (sole_twig _ _ _) (sole_twig _ _ _)) (seq _ (sole_twig _ _ _) c.visit_twig-in-Four.ensures c.in_ok-visit_twig-in-Four.was c.visit_twig-in-Four-2.ensures) c.in_ok-visit_twig-in-Four-2.was c.visit_twig-in-Four-3.ensures) c.in_ok-visit_twig-in-Four-3.was c.visit_twig-in-Four-4.ensures)
 
 pub visit_node-returns-then-height-eq0 : goal.visit_node-returns-then-height-eq0
 visit_node-returns-then-height-eq0 g t c = node_flat _ c.if-height-eq0.true refl

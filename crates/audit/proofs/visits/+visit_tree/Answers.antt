@@ -30,5 +30,5 @@ returns-in_err-visit_tree-in-Level g t c = level_stopped c.in-Deep.is c.enter.en
 pub returns-in_err-visit_digit-in-Level-2 : goal.returns-in_err-visit_digit-in-Level-2
 returns-in_err-visit_digit-in-Level-2 g t c = level_stopped c.in-Deep.is c.enter.ensures c.in_ok-record-in-Deep.was c.in-Level.is _ _ (seq _ (sole_both (arm_at _ _ _) (tree_at _ _ _) (sole_arm _ _ _) (sole_tree _ _ _)) (seq _ (sole_arm _ _ _) c.visit_digit.ensures c.in_ok-visit_digit-in-Level.was c.visit_tree.ensures) c.in_ok-visit_tree-in-Level.was c.visit_digit-in-Level.ensures) (ap is_err c.in_err-visit_digit-in-Level-2.was) c.from_residual-in_err-visit_digit-in-Level-2.ensures.0
 
-pub returns-in_ok-visit_digit-2 : goal.returns-in_ok-visit_digit-2
-returns-in_ok-visit_digit-2 g t c = level_visited c.in-Deep.is c.enter.ensures c.in_ok-record-in-Deep.was c.in-Level.is _ (seq _ (sole_both (arm_at _ _ _) (tree_at _ _ _) (sole_arm _ _ _) (sole_tree _ _ _)) (seq _ (sole_arm _ _ _) c.visit_digit.ensures c.in_ok-visit_digit-in-Level.was c.visit_tree.ensures) c.in_ok-visit_tree-in-Level.was c.visit_digit-in-Level.ensures) c.in_ok-visit_digit-in-Level-2.was c.level_value.ensures c.confirm.ensures
+pub returns-in_ok-visit_digit-in-Level-2 : goal.returns-in_ok-visit_digit-in-Level-2
+returns-in_ok-visit_digit-in-Level-2 g t c = level_visited c.in-Deep.is c.enter.ensures c.in_ok-record-in-Deep.was c.in-Level.is _ (seq _ (sole_both (arm_at _ _ _) (tree_at _ _ _) (sole_arm _ _ _) (sole_tree _ _ _)) (seq _ (sole_arm _ _ _) c.visit_digit.ensures c.in_ok-visit_digit-in-Level.was c.visit_tree.ensures) c.in_ok-visit_tree-in-Level.was c.visit_digit-in-Level.ensures) c.in_ok-visit_digit-in-Level-2.was c.level_value.ensures c.confirm.ensures

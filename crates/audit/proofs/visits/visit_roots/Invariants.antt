@@ -6,5 +6,5 @@ use Rattle.audit.proofs.visits.visit_roots.Given as goal
 
 abbrev pub invariant-loop-root : goal.invariant-loop-root
 invariant-loop-root g l =
-    Remains (rules g.Item.Weigh.weight g.M.Measure.means g.L.LeafCheck.items g.L.LeafCheck.good g.L.LeafCheck.checks) l.slots
+    Remains (rules g.M.Item.Weigh.weight g.M.Measure.means g.L.LeafCheck.items g.L.LeafCheck.good g.L.LeafCheck.checks) l.slots
     l.roots (moment l.initial.scratch l.initial.budget l.initial.leaves) (drop l.root-index l.roots) (moment l.scratch l.budget l.leaves)

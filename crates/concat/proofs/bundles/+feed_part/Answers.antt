@@ -4,8 +4,8 @@ use Rattle.concat.proofs.bundles.+feed_part.Goals as goal
 pub returns-in-None : goal.returns-in-None
 returns-in-None g t c = part_done c.in-None.is
 
-pub returns-in_ok-more : goal.returns-in_ok-more
-returns-in_ok-more g t c = part_more c.feed.ensures c.peel-first.ensures c.in-Some.is c.in_ok-more.was c.feed_part.ensures
+pub returns-in_ok-more-in-Some : goal.returns-in_ok-more-in-Some
+returns-in_ok-more-in-Some g t c = part_more c.feed.ensures c.peel-first.ensures c.in-Some.is c.in_ok-more-in-Some.was c.feed_part.ensures
 
-pub returns-in_err-more : goal.returns-in_err-more
-returns-in_err-more g t c = part_no_more c.feed.ensures c.peel-first.ensures c.in-Some.is c.in_err-more.was
+pub returns-in_err-more-in-Some : goal.returns-in_err-more-in-Some
+returns-in_err-more-in-Some g t c = part_no_more c.feed.ensures c.peel-first.ensures c.in-Some.is c.in_err-more-in-Some.was

@@ -5,11 +5,11 @@ use Rattle.concat.proofs.bundles.feed.Goals as goal
 pub returns-in-Room : goal.returns-in-Room
 returns-in-Room g c = feed_room c.grow.ensures c.in-Room.is refl refl
 
-pub returns-in_ok-made : goal.returns-in_ok-made
-returns-in_ok-made g c = feed_over c.put_node.ensures c.grow.ensures c.in-Over.is c.in_ok-n.was c.append.ensures c.in_ok-made.was refl refl
+pub returns-in_ok-made-in-Over : goal.returns-in_ok-made-in-Over
+returns-in_ok-made-in-Over g c = feed_over c.put_node.ensures c.grow.ensures c.in-Over.is c.in_ok-n-in-Over.was c.append.ensures c.in_ok-made-in-Over.was refl refl
 
-pub returns-in_err-n : goal.returns-in_err-n
-returns-in_err-n g c = feed_no_node c.put_node.ensures c.grow.ensures c.in-Over.is c.in_err-n.was
+pub returns-in_err-n-in-Over : goal.returns-in_err-n-in-Over
+returns-in_err-n-in-Over g c = feed_no_node c.put_node.ensures c.grow.ensures c.in-Over.is c.in_err-n-in-Over.was
 
-pub returns-in_err-made : goal.returns-in_err-made
-returns-in_err-made g c = feed_no_room c.put_node.ensures c.grow.ensures c.in-Over.is c.in_ok-n.was c.append.ensures c.in_err-made.was
+pub returns-in_err-made-in-Over : goal.returns-in_err-made-in-Over
+returns-in_err-made-in-Over g c = feed_no_room c.put_node.ensures c.grow.ensures c.in-Over.is c.in_ok-n-in-Over.was c.append.ensures c.in_err-made-in-Over.was

@@ -16,20 +16,20 @@ returns-in-Single-right g t c = right_one c.in-Single-right.is (past_at c.in-Dee
 pub returns-then-fuel-eq0 : goal.returns-then-fuel-eq0
 returns-then-fuel-eq0 g t c = no_fuel c.if-fuel-eq0.true
 
-pub returns-in_err-l : goal.returns-in_err-l
-returns-in_err-l g t c = no_left c.in-Deep.is c.spine_at.ensures c.in_err-l.was
+pub returns-in_err-l-in-Deep-right : goal.returns-in_err-l-in-Deep-right
+returns-in_err-l-in-Deep-right g t c = no_left c.in-Deep.is c.spine_at.ensures c.in_err-l-in-Deep-right.was
 
-pub returns-in_err-r : goal.returns-in_err-r
-returns-in_err-r g t c = no_right c.in-Deep-right.is c.spine_at-in-Deep-right.ensures c.in_err-r.was
+pub returns-in_err-r-in-Deep-right : goal.returns-in_err-r-in-Deep-right
+returns-in_err-r-in-Deep-right g t c = no_right c.in-Deep-right.is c.spine_at-in-Deep-right.ensures c.in_err-r-in-Deep-right.was
 
-pub returns-in_err-nodes : goal.returns-in_err-nodes
-returns-in_err-nodes g t c = no_nodes c.in-Deep.is c.in-Deep-right.is c.spine_at.ensures c.in_ok-l.was c.spine_at-in-Deep-right.ensures c.in_ok-r.was c.bundle.ensures c.in_err-nodes.was
+pub returns-in_err-nodes-in-Deep-right : goal.returns-in_err-nodes-in-Deep-right
+returns-in_err-nodes-in-Deep-right g t c = no_nodes c.in-Deep.is c.in-Deep-right.is c.spine_at.ensures c.in_ok-l-in-Deep-right.was c.spine_at-in-Deep-right.ensures c.in_ok-r-in-Deep-right.was c.bundle.ensures c.in_err-nodes-in-Deep-right.was
 
-pub returns-in_err-middle : goal.returns-in_err-middle
-returns-in_err-middle g t c = no_middle c.in-Deep.is c.in-Deep-right.is c.spine_at.ensures c.in_ok-l.was c.spine_at-in-Deep-right.ensures c.in_ok-r.was c.bundle.ensures c.in_ok-nodes.was c.concat_down.ensures c.in_err-middle.was
+pub returns-in_err-middle-in-Deep-right : goal.returns-in_err-middle-in-Deep-right
+returns-in_err-middle-in-Deep-right g t c = no_middle c.in-Deep.is c.in-Deep-right.is c.spine_at.ensures c.in_ok-l-in-Deep-right.was c.spine_at-in-Deep-right.ensures c.in_ok-r-in-Deep-right.was c.bundle.ensures c.in_ok-nodes-in-Deep-right.was c.concat_down.ensures c.in_err-middle-in-Deep-right.was
 
-pub returns-in_err-give_slot : goal.returns-in_err-give_slot
-returns-in_err-give_slot g t c = no_gift c.in-Deep.is c.in-Deep-right.is c.spine_at.ensures c.in_ok-l.was c.spine_at-in-Deep-right.ensures c.in_ok-r.was c.bundle.ensures c.in_ok-nodes.was c.concat_down.ensures c.give_slot.ensures c.in_err-give_slot.was
+pub returns-in_err-give_slot-in-Deep-right : goal.returns-in_err-give_slot-in-Deep-right
+returns-in_err-give_slot-in-Deep-right g t c = no_gift c.in-Deep.is c.in-Deep-right.is c.spine_at.ensures c.in_ok-l-in-Deep-right.was c.spine_at-in-Deep-right.ensures c.in_ok-r-in-Deep-right.was c.bundle.ensures c.in_ok-nodes-in-Deep-right.was c.concat_down.ensures c.give_slot.ensures c.in_err-give_slot-in-Deep-right.was
 
-pub returns-in_ok-give_slot : goal.returns-in_ok-give_slot
-returns-in_ok-give_slot g t c = both c.in-Deep.is c.in-Deep-right.is c.spine_at.ensures c.in_ok-l.was c.spine_at-in-Deep-right.ensures c.in_ok-r.was c.bundle.ensures c.in_ok-nodes.was c.concat_down.ensures c.join_between-value.ensures c.in_ok-middle.was c.give_slot.ensures c.put_level.ensures
+pub returns-in_ok-give_slot-in-Deep-right : goal.returns-in_ok-give_slot-in-Deep-right
+returns-in_ok-give_slot-in-Deep-right g t c = both c.in-Deep.is c.in-Deep-right.is c.spine_at.ensures c.in_ok-l-in-Deep-right.was c.spine_at-in-Deep-right.ensures c.in_ok-r-in-Deep-right.was c.bundle.ensures c.in_ok-nodes-in-Deep-right.was c.concat_down.ensures c.join_between-value.ensures c.in_ok-middle-in-Deep-right.was c.give_slot.ensures c.put_level.ensures
