@@ -8,8 +8,8 @@ returns-in_err-found g c = edge_broken c.args.p c.empty-place.ensures c.search.e
 pub returns-in-None : goal.returns-in-None
 returns-in-None g c = edge_none c.args.p c.empty-place.ensures c.search.ensures (c.in_ok-found.was ∙ ap Ok c.in-None.is)
 
-pub returns-in_err-row : goal.returns-in_err-row
-returns-in_err-row g c = edge_no_row c.args.p c.empty-place.ensures c.search.ensures (c.in_ok-found.was ∙ ap Ok c.in-Some.is) c.row_at.ensures c.in_err-row.was
+pub returns-in_err-row-in-Some : goal.returns-in_err-row-in-Some
+returns-in_err-row-in-Some g c = edge_no_row c.args.p c.empty-place.ensures c.search.ensures (c.in_ok-found.was ∙ ap Ok c.in-Some.is) c.row_at.ensures c.in_err-row-in-Some.was
 
-pub returns-in_ok-row : goal.returns-in_ok-row
-returns-in_ok-row g c = edge_found c.args.p c.empty-place.ensures c.search.ensures (c.in_ok-found.was ∙ ap Ok c.in-Some.is) c.row_at.ensures c.in_ok-row.was
+pub returns-in_ok-row-in-Some : goal.returns-in_ok-row-in-Some
+returns-in_ok-row-in-Some g c = edge_found c.args.p c.empty-place.ensures c.search.ensures (c.in_ok-found.was ∙ ap Ok c.in-Some.is) c.row_at.ensures c.in_ok-row-in-Some.was

@@ -8,8 +8,8 @@ returns-in_err-found c = no_split c.args.at c.split.ensures c.in_err-found.was
 pub returns-in-None : goal.returns-in-None
 returns-in-None c = all_before c.args.at c.split.ensures (c.in_ok-found.was ∙ ap Ok c.in-None.is)
 
-pub returns-in_err-row : goal.returns-in_err-row
-returns-in_err-row c = no_row c.args.at c.split.ensures (c.in_ok-found.was ∙ ap Ok c.in-Some.is) c.row_at.ensures c.in_err-row.was
+pub returns-in_err-row-in-Some : goal.returns-in_err-row-in-Some
+returns-in_err-row-in-Some c = no_row c.args.at c.split.ensures (c.in_ok-found.was ∙ ap Ok c.in-Some.is) c.row_at.ensures c.in_err-row-in-Some.was
 
-pub returns-in_ok-row : goal.returns-in_ok-row
-returns-in_ok-row c = apart_at c.args.at c.split.ensures (c.in_ok-found.was ∙ ap Ok c.in-Some.is) c.row_at.ensures c.in_ok-row.was
+pub returns-in_ok-row-in-Some : goal.returns-in_ok-row-in-Some
+returns-in_ok-row-in-Some c = apart_at c.args.at c.split.ensures (c.in_ok-found.was ∙ ap Ok c.in-Some.is) c.row_at.ensures c.in_ok-row-in-Some.was

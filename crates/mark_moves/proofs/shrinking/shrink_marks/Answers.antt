@@ -11,8 +11,8 @@ returns-in-None c = shrink_none c.args.from c.args.to c.saturating_add.ensures c
 pub returns-then-offset-to : goal.returns-then-offset-to
 returns-then-offset-to c = shrink_turn c.args.from c.args.to c.saturating_add.ensures c.empty-place.ensures c.part_marks.ensures (c.in_ok-found.was ∙ ap Ok c.in-Some.is) c.saturating_sub.ensures c.saturating_add-base.ensures c.saturating_add-offset.ensures c.if-offset-to.true c.saturating_sub-then-offset-to.ensures c.join_moved.ensures
 
-pub returns-in_err-give_slot : goal.returns-in_err-give_slot
-returns-in_err-give_slot c = shrink_no_give c.args.from c.args.to c.saturating_add.ensures c.empty-place.ensures c.part_marks.ensures (c.in_ok-found.was ∙ ap Ok c.in-Some.is) c.saturating_sub.ensures c.saturating_add-base.ensures c.saturating_add-offset.ensures c.if-offset-to.false c.give_slot.ensures c.in_err-give_slot.was
+pub returns-in_err-give_slot-in-Some : goal.returns-in_err-give_slot-in-Some
+returns-in_err-give_slot-in-Some c = shrink_no_give c.args.from c.args.to c.saturating_add.ensures c.empty-place.ensures c.part_marks.ensures (c.in_ok-found.was ∙ ap Ok c.in-Some.is) c.saturating_sub.ensures c.saturating_add-base.ensures c.saturating_add-offset.ensures c.if-offset-to.false c.give_slot.ensures c.in_err-give_slot-in-Some.was
 
-pub returns-in_ok-give_slot : goal.returns-in_ok-give_slot
-returns-in_ok-give_slot c = shrink_drop c.args.from c.args.to c.saturating_add.ensures c.empty-place.ensures c.part_marks.ensures (c.in_ok-found.was ∙ ap Ok c.in-Some.is) c.saturating_sub.ensures c.saturating_add-base.ensures c.saturating_add-offset.ensures c.if-offset-to.false c.give_slot.ensures c.add.ensures c.drop_marks.ensures
+pub returns-in_ok-give_slot-in-Some : goal.returns-in_ok-give_slot-in-Some
+returns-in_ok-give_slot-in-Some c = shrink_drop c.args.from c.args.to c.saturating_add.ensures c.empty-place.ensures c.part_marks.ensures (c.in_ok-found.was ∙ ap Ok c.in-Some.is) c.saturating_sub.ensures c.saturating_add-base.ensures c.saturating_add-offset.ensures c.if-offset-to.false c.give_slot.ensures c.add.ensures c.drop_marks.ensures
