@@ -213,7 +213,7 @@ module _ {A S : Type 0} {am : List ℕ → A} {bytes : S → List ℕ} {capacity
             let ab : a ≤ b = ok.0 in
             let part : slice T a b ≡ slice Y k j =
             ap (λ (t : List ℕ). slice t a b) D.I.spells
-            ∙ slice_one L Y (flat (bytes_of B) D.I.ys) a b k D.at (omega (arith, D.in-x, D.size)) (omega (arith, ends X, D.size))
+            ∙ slice_one L Y (flat (bytes_of B) D.I.ys) a b k D.at (omega (arith, D.in_x, D.size)) (omega (arith, ends X, D.size))
             ∙ ap (λ (n : ℕ). take n (drop k Y)) (let e : b - a ≡ j - k = omega (arith, D.at, D.before) in e) in
             sym got-m ∙ D.value ∙ ap (λ (t : List ℕ). Ok (am t)) (sym part);
         reading = one_read;
@@ -229,7 +229,7 @@ module _ {A S : Type 0} {am : List ℕ → A} {bytes : S → List ℕ} {capacity
             let before : length (flat (bytes_of B) I.xs) ≡ sizes I.xs = flat_size B I.xs (all_left B I.xs (x ∷ I.ys) good) in
             let whole : length T ≡ sizes I.xs + (x.length + sizes I.ys) = ap length (sym X.spells) ∙ flat_size B (rows X.t) X.good ∙ ap sizes I.parts ∙ sizes_append I.xs (x ∷ I.ys) in
             let Y = moved M.reading.same_bytes X in
-            G.value T Y.0 I.xs x I.ys (ap rows Y.1 ∙ I.parts) (omega (arith, D.at)) (omega (arith, D.at, D.in-x)) (omega (arith, ends X))
+            G.value T Y.0 I.xs x I.ys (ap rows Y.1 ∙ I.parts) (omega (arith, D.at)) (omega (arith, D.at, D.in_x)) (omega (arith, ends X))
             ∙ ap (λ (t : List ℕ). Ok (am (take (b - end) (flat (bytes_of t) I.ys)))) M.reading.same_bytes
 
         both_read : Reads bytes capacity reads 512 s s₂
@@ -252,7 +252,7 @@ module _ {A S : Type 0} {am : List ℕ → A} {bytes : S → List ℕ} {capacity
               let Z : List ℕ = flat (bytes_of B) D.I.ys in
               let all : slice Y k j ≡ drop k Y = take_all (j - k) (drop k Y) (omega (arith, length-drop k Y, ends X, D.size, D.before, D.at)) in
               let part : slice T a b ≡ drop k Y ++ take (b - end) Z =
-              ap (λ (t : List ℕ). slice t a b) D.I.spells ∙ slice_two L Y Z a b k D.at (omega (arith, D.in-x, D.size)) (b - end) (omega (arith, ends X, D.size)) in
+              ap (λ (t : List ℕ). slice t a b) D.I.spells ∙ slice_two L Y Z a b k D.at (omega (arith, D.in_x, D.size)) (b - end) (omega (arith, ends X, D.size)) in
               let short : length (drop k Y ++ take (b - end) Z) ≤ heaviest =
               omega (arith, ap length (sym part), length-take (b - a) (drop a T), length-drop a T, light_text X) in
               ap Ok (J.joins (drop k Y) (take (b - end) Z) (light_bytes (drop k Y ++ take (b - end) Z) short) (ok_same got-m D.value ∙ ap am all) (ok_same got-n (rest_value X ok.1)) ∙ ap am (sym part));

@@ -7,6 +7,6 @@ returns-then-met-number g c = scan_found c.args.piece.short c.loop-i-test.true c
 
 pub loop-i-preserved : goal.loop-i-preserved
 loop-i-preserved g c = elim c.if-byte-eq-FEED.branch [
-  | then-byte-eq-FEED+else-met-number w ↦ scan_met c.args.piece.short c.loop-i-test.true c.loop-i.invariant c.in-Some.ensures w.if-byte-eq-FEED.true w.if-met-number.false w.met_is
-  | else-byte-eq-FEED w ↦ scan_on c.args.piece.short c.loop-i-test.true c.loop-i.invariant c.in-Some.ensures w.if-byte-eq-FEED.false w.met_is
+  | then-byte-eq-FEED+else-met-number w ↦ scan_met c.args.piece.short c.loop-i-test.true c.loop-i.invariant c.in-Some.ensures w.if-byte-eq-FEED.true w.if-met-number.false w.met-is
+  | else-byte-eq-FEED w ↦ scan_on c.args.piece.short c.loop-i-test.true c.loop-i.invariant c.in-Some.ensures w.if-byte-eq-FEED.false w.met-is
 ]
