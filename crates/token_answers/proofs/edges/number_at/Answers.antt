@@ -4,11 +4,11 @@ use Rattle.token_answers.proofs.edges.number_at.Goals as goal
 pub returns-in_err-found : goal.returns-in_err-found
 returns-in_err-found g c = number_lost c.args.at c.empty-before.ensures c.find_row.ensures c.in_err-found.was
 
-pub returns-in_err-stop : goal.returns-in_err-stop
-returns-in_err-stop g c = number_unread c.args.at c.empty-before.ensures c.find_row.ensures c.in_ok-found.was c.in-Some.is c.in-Some-piece.ensures c.whole-read.ensures.value c.saturating_sub-inside.ensures c.saturating_add.ensures c.scan.ensures c.in_err-stop.was
+pub returns-in_err-stop-in-Some-piece : goal.returns-in_err-stop-in-Some-piece
+returns-in_err-stop-in-Some-piece g c = number_unread c.args.at c.empty-before.ensures c.find_row.ensures c.in_ok-found.was c.in-Some.is c.in-Some-piece.ensures c.whole-read.ensures.value c.saturating_sub-inside.ensures c.saturating_add.ensures c.scan.ensures c.in_err-stop-in-Some-piece.was
 
-pub returns-in_ok-stop : goal.returns-in_ok-stop
-returns-in_ok-stop g c = number_found c.args.at c.empty-before.ensures c.find_row.ensures c.in_ok-found.was c.in-Some.is c.in-Some-piece.ensures c.whole-read.ensures.value c.saturating_sub-inside.ensures c.saturating_add.ensures c.scan.ensures c.in_ok-stop.was
+pub returns-in_ok-stop-in-Some-piece : goal.returns-in_ok-stop-in-Some-piece
+returns-in_ok-stop-in-Some-piece g c = number_found c.args.at c.empty-before.ensures c.find_row.ensures c.in_ok-found.was c.in-Some.is c.in-Some-piece.ensures c.whole-read.ensures.value c.saturating_sub-inside.ensures c.saturating_add.ensures c.scan.ensures c.in_ok-stop-in-Some-piece.was
 
 pub returns-in-None-piece : goal.returns-in-None-piece
 returns-in-None-piece g c = number_no_piece c.args.at c.empty-before.ensures c.find_row.ensures c.in_ok-found.was c.in-Some.is g.S.Store.lawful c.in-None-piece.ensures
