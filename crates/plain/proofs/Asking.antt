@@ -4,7 +4,6 @@ use Rattle.std.specs.Option.{option_map}
 use Rattle.plain.specs.Lists.{first_no}
 use Rattle.plain.specs.Machine.{Machine, Call, allowed, asked, refusal}
 use Rattle.plain.specs.declared.faults.TextFault.{TextFault}
-use Rattle.plain.specs.declared.faults.CallFault.{CallFault}
 use Rattle.plain.specs.declared.faults.CallFault.TheVariants.{NotAllowed, Text}
 
 -- every test passed

@@ -1,8 +1,8 @@
 -- Every call keeps a machine proper, and a refused one leaves it as it was.
-use Rattle.std.proofs.Common.{◌≡◌, ℕ, ◌+◌, ◌-◌, ◌<◌, ◌≤◌, Bool, true, false, List, [], ◌∷◌, ◌++◌, length, take, drop, Some, None, Ok, Err, Option, sym, refl, ap, ◌∙◌, subst, arith, length-append, length-drop, length-take}
+use Rattle.std.proofs.Common.{◌≡◌, ℕ, ◌+◌, ◌-◌, ◌<◌, ◌≤◌, List, [], ◌∷◌, ◌++◌, length, take, drop, Some, None, Ok, Err, Option, sym, refl, ap, ◌∙◌, subst, arith, length-append, length-drop, length-take}
 use Rattle.std.proofs.lemmas.Bool.{leb-true, ltb-true, and_parts}
-use Rattle.plain.specs.Pieces.{Piece, piece, spell, before, after, between}
-use Rattle.plain.specs.Marks.{grown, shrunk, marked}
+use Rattle.plain.specs.Pieces.{piece, spell, before, after}
+use Rattle.plain.specs.Marks.{grown, shrunk}
 use Rattle.plain.specs.Machine.{
   Machine,
   Call,

@@ -4,8 +4,8 @@ use mathlib.Core.List.{tail}
 use Rattle.std.proofs.lemmas.Bool.{eqb-true, ne_eqb, and_parts}
 use Rattle.plain.specs.Lists.{among, first, slice}
 use Rattle.plain.specs.Tokens.{letter, digit, white, feed, quote, escape, begun, stays, step, is_key, name_of, kind_of, token_of, tokens, tokens_from}
-use Rattle.plain.specs.Brackets.{Settled, pair, stray, unmet, waiting, closed, settled, brackets, brackets_from}
-use Rattle.plain.specs.Laws.{taken_in, pairing, Beyond, Outside, AllOutside, Nested}
+use Rattle.plain.specs.Brackets.{Settled, unmet, waiting, closed, settled, brackets, brackets_from}
+use Rattle.plain.specs.Laws.{taken_in, pairing, Beyond, AllOutside, Nested}
 use Rattle.plain.specs.declared.answers.Kind.{Kind}
 use Rattle.plain.specs.declared.answers.Kind.TheVariants.{Word, Key}
 use Rattle.plain.specs.declared.answers.Token.{Token}

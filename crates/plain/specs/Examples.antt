@@ -1,8 +1,8 @@
 -- Worked examples: small texts, the calls made on them, and all that the plain machine shows. One computed table.
-use Rattle.std.specs.Prelude.{◌≡◌, ℕ, ◌+◌, Bool, cond, List, [], ◌∷◌, ◌++◌, map, length, replicate, Some, None, Ok, Err, codes, ◌==◌}
+use Rattle.std.specs.Prelude.{◌≡◌, ℕ, ◌+◌, List, [], ◌∷◌, ◌++◌, map, length, replicate, Some, None, Ok, Err, codes, ◌==◌}
 use Rattle.plain.specs.Lists.{first}
 use Rattle.plain.specs.Questions.{longest}
-use Rattle.plain.specs.Machine.{Machine, Call, Outcome, opening, run}
+use Rattle.plain.specs.Machine.{Call, Outcome, opening, run}
 use Rattle.plain.specs.Script.{panel}
 use Rattle.plain.specs.declared.answers.Kind.{Kind}
 use Rattle.plain.specs.declared.answers.Kind.TheVariants as kind

@@ -1,5 +1,5 @@
 -- Laws above the definitions, in the subject's words.
-use Rattle.std.specs.Prelude.{◌≡◌, ℕ, suc, ◌+◌, ◌<◌, ◌≤◌, Bool, true, false, ◌⊎◌, List, [], ◌∷◌, ◌++◌, map, length, take, drop, Some, None, Ok, Err, Option}
+use Rattle.std.specs.Prelude.{◌≡◌, ℕ, suc, ◌+◌, ◌<◌, ◌≤◌, ◌⊎◌, List, [], ◌∷◌, ◌++◌, map, length, take, drop, Some, Ok, Err}
 use mathlib.Core.List.{tail}
 use Rattle.plain.specs.Tokens.{tokens}
 use Rattle.plain.specs.Questions.{token_of_offset}

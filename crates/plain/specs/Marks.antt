@@ -1,5 +1,5 @@
 -- How edits move the marks.
-use Rattle.std.specs.Prelude.{ℕ, ◌+◌, ◌-◌, Bool, cond, List, [], ◌∷◌, nat_le, nat_lt}
+use Rattle.std.specs.Prelude.{ℕ, ◌+◌, ◌-◌, cond, List, [], ◌∷◌, nat_le, nat_lt}
 use Rattle.plain.specs.declared.answers.Mark.{Mark}
 
 abbrev pub mark_at : ℕ → ℕ → Mark

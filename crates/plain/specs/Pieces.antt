@@ -1,5 +1,5 @@
 -- A text is spelled by pieces of the store's bytes.
-use Rattle.std.specs.Prelude.{ℕ, zero, suc, ◌+◌, ◌-◌, Bool, cond, List, [], ◌∷◌, ◌++◌, take, drop, ◌==◌, nat_le}
+use Rattle.std.specs.Prelude.{ℕ, zero, suc, ◌+◌, ◌-◌, cond, List, [], ◌∷◌, ◌++◌, take, drop, ◌==◌, nat_le}
 
 -- the bytes of a store at an address, so many
 pub record Piece : Type 0 where

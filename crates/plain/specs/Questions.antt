@@ -1,12 +1,11 @@
 -- What the questions answer: readings of the text t and of its marks h from left to right.
-use Rattle.std.specs.Prelude.{ℕ, suc, ◌+◌, Bool, true, false, cond, List, [], ◌∷◌, length, take, Option, ◌==◌, nat_le, nat_lt, slice_index}
+use Rattle.std.specs.Prelude.{ℕ, suc, ◌+◌, cond, List, [], ◌∷◌, length, take, Option, ◌==◌, nat_le, nat_lt, slice_index}
 use Rattle.std.specs.Option.{option_map}
 use Rattle.plain.specs.Lists.{find, count, nth, greatest}
 use Rattle.plain.specs.Tokens.{feed, tokens}
 use Rattle.plain.specs.Brackets.{Settled, pair, stray, unmet, brackets, is_stray, is_unmet, touches, fitting}
 use Rattle.plain.specs.declared.answers.Token.{Token}
 use Rattle.plain.specs.declared.answers.Place.{Place}
-use Rattle.plain.specs.declared.answers.Match.{Match}
 use Rattle.plain.specs.declared.answers.Match.TheVariants.{Fits, Crossed}
 use Rattle.plain.specs.declared.answers.Bracket.{Bracket}
 use Rattle.plain.specs.declared.answers.Bracket.TheVariants.{Paired, Alone}

@@ -1,5 +1,5 @@
 -- Scripts: the lines that the program reads and prints, from bytes to bytes.
-use Rattle.std.specs.Prelude.{ℕ, suc, ◌+◌, ◌-◌, ◌*◌, Bool, true, false, cond, List, [], ◌∷◌, ◌++◌, length, Some, None, Ok, Err, codes, decimal, Option, Result, ◌==◌, nat_le}
+use Rattle.std.specs.Prelude.{ℕ, suc, ◌+◌, ◌-◌, ◌*◌, true, false, cond, List, [], ◌∷◌, ◌++◌, length, Some, None, Ok, Err, codes, decimal, Option, Result, ◌==◌, nat_le}
 use Rattle.std.specs.Option.{option_map}
 use Rattle.plain.specs.Lists.{within, same, first}
 use Rattle.plain.specs.Tokens.{digit}
@@ -22,7 +22,6 @@ use Rattle.plain.specs.declared.calls.Request.TheVariants as request
 use Rattle.plain.specs.declared.faults.Layer.{Layer}
 use Rattle.plain.specs.declared.faults.Layer.TheVariants as layer
 use Rattle.plain.specs.declared.faults.TextFault.{TextFault}
-use Rattle.plain.specs.declared.faults.CallFault.{CallFault}
 use Rattle.plain.specs.declared.faults.CallFault.TheVariants.{NotAllowed, Text}
 use Rattle.plain.specs.declared.faults.LineFault.{LineFault}
 use Rattle.plain.specs.declared.faults.LineFault.TheVariants as fault

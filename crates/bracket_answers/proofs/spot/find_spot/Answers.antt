@@ -4,11 +4,11 @@ use Rattle.bracket_answers.proofs.spot.find_spot.Goals as goal
 pub returns-in_err-found : goal.returns-in_err-found
 returns-in_err-found g c = spot_lost c.args.at c.empty-before.ensures c.find_row.ensures c.in_err-found.was
 
-pub returns-in_err-stop : goal.returns-in_err-stop
-returns-in_err-stop g c = spot_unread c.args.at c.empty-before.ensures c.find_row.ensures c.in_ok-found.was c.in-Some.is c.in-Some-piece.ensures c.row_of.ensures c.saturating_sub.ensures c.saturating_add-count.ensures c.start.ensures c.scan.ensures c.in_err-stop.was
+pub returns-in_err-stop-in-Some-piece : goal.returns-in_err-stop-in-Some-piece
+returns-in_err-stop-in-Some-piece g c = spot_unread c.args.at c.empty-before.ensures c.find_row.ensures c.in_ok-found.was c.in-Some.is c.in-Some-piece.ensures c.row_of.ensures c.saturating_sub.ensures c.saturating_add-count.ensures c.start.ensures c.scan.ensures c.in_err-stop-in-Some-piece.was
 
-pub returns-in_ok-stop : goal.returns-in_ok-stop
-returns-in_ok-stop g c = spot_found c.args.at c.empty-before.ensures c.find_row.ensures c.in_ok-found.was c.in-Some.is c.in-Some-piece.ensures c.row_of.ensures c.saturating_sub.ensures c.saturating_add-count.ensures c.start.ensures c.scan.ensures c.in_ok-stop.was
+pub returns-in_ok-stop-in-Some-piece : goal.returns-in_ok-stop-in-Some-piece
+returns-in_ok-stop-in-Some-piece g c = spot_found c.args.at c.empty-before.ensures c.find_row.ensures c.in_ok-found.was c.in-Some.is c.in-Some-piece.ensures c.row_of.ensures c.saturating_sub.ensures c.saturating_add-count.ensures c.start.ensures c.scan.ensures c.in_ok-stop-in-Some-piece.was
 
 pub returns-in-None-piece : goal.returns-in-None-piece
 returns-in-None-piece g c = spot_no_piece c.args.at c.empty-before.ensures c.find_row.ensures c.in_ok-found.was c.in-Some.is g.S.Store.lawful c.in-None-piece.ensures
