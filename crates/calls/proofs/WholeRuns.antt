@@ -95,7 +95,7 @@ module _ {A S : Type 0} (am : List ℕ → A) (bytes : S → List ℕ) (capacity
               marks = out.1.marks;
               same_bytes = O.same_bytes;
               same_capacity = O.same_capacity;
-              no_reads = out.1.same_Reads;
+              no_reads = out.1.same_reads;
               scratch = refl;
               replies = refl;
             },

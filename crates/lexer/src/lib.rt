@@ -1,4 +1,6 @@
 // Reading tokens: one byte at a time, and as a measure.
+#![tactic(auto)]
+
 pub mod kinds;
 pub mod probes;
 pub mod reading;

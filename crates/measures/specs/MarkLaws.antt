@@ -1,4 +1,4 @@
-use Rattle.std.specs.Prelude.{◌≡◌, ℕ, ◌+◌, ◌≤◌, min, List, [], ◌∷◌, ◌++◌, length}
+use Rattle.std.specs.Prelude.{◌≡◌, ℕ, ◌+◌, min, List, [], ◌∷◌, ◌++◌}
 use Rattle.std.proofs.Common.{ap, arith, length-append}
 use Rattle.measures.specs.Law.{Joins, weights}
 use Rattle.measures.specs.MarkTotals.{gaps, totals_of_marks, placed, last_offset_of}

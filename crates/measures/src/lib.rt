@@ -1,4 +1,6 @@
 // What a finger tree caches: the value of a lawful measure of the items below.
+#![tactic(auto)]
+
 ghost use Rattle.std.specs.Prelude.{◌≡◌, ℕ, ◌≤◌, Bool, true, List, [], ◌∷◌, ◌++◌};
 ghost use Rattle.measures.specs.Law.{Joins, Adds, Keeps};
 

@@ -1,4 +1,6 @@
 // Bytes behind a trait: every store means a list of bytes, a capacity and a count of the reads so far.
+#![tactic(auto)]
+
 ghost use Rattle.std.specs.Prelude.{◌≡◌, ℕ, ◌-◌, List, length};
 ghost use Rattle.stores.specs.Stores.{Lawful, ReadsAt, Appends};
 

@@ -8,53 +8,53 @@ use Rattle.calls.proofs.CallKinds.{no_question}
 use Rattle.calls.proofs.Questions.{passed_on, unread, answers}
 use Rattle.calls.proofs.asking.ask.Goals as goal
 
-pub returns-in_err-line_of : goal.returns-in_err-line_of
-returns-in_err-line_of g c kind = answers (λ m. line_of_offset (text m) c.in-LineOf.at) answer.Line c.in-LineOf.is (λ m. refl) (passed_on answer.Line _ _ c.from_residual.ensures.1) (c.in_err-line_of.ensures (watched_of c.args.marks.now))
+pub returns-in_err-line_of-in-LineOf : goal.returns-in_err-line_of-in-LineOf
+returns-in_err-line_of-in-LineOf g c kind = answers (λ m. line_of_offset (text m) c.in-LineOf.at) answer.Line c.in-LineOf.is (λ m. refl) (passed_on answer.Line _ _ c.from_residual.ensures.1) (c.in_err-line_of-in-LineOf.ensures (watched_of c.args.marks.now))
 
-pub returns-in_err-start_of : goal.returns-in_err-start_of
-returns-in_err-start_of g c kind = answers (λ m. start_of_line (text m) c.in-StartOf.line) answer.Start c.in-StartOf.is (λ m. refl) (passed_on answer.Start _ _ c.from_residual-in_err-start_of.ensures.1) (c.in_err-start_of.ensures (watched_of c.args.marks.now))
+pub returns-in_err-start_of-in-StartOf : goal.returns-in_err-start_of-in-StartOf
+returns-in_err-start_of-in-StartOf g c kind = answers (λ m. start_of_line (text m) c.in-StartOf.line) answer.Start c.in-StartOf.is (λ m. refl) (passed_on answer.Start _ _ c.from_residual-in_err-start_of-in-StartOf.ensures.1) (c.in_err-start_of-in-StartOf.ensures (watched_of c.args.marks.now))
 
-pub returns-in_err-token_at : goal.returns-in_err-token_at
-returns-in_err-token_at g c kind = answers (λ m. token_of_offset (text m) c.in-TokenAt.at) answer.Token c.in-TokenAt.is (λ m. refl) (passed_on answer.Token _ _ c.from_residual-in_err-token_at.ensures.1) (c.in_err-token_at.ensures (watched_of c.args.marks.now))
+pub returns-in_err-token_at-in-TokenAt : goal.returns-in_err-token_at-in-TokenAt
+returns-in_err-token_at-in-TokenAt g c kind = answers (λ m. token_of_offset (text m) c.in-TokenAt.at) answer.Token c.in-TokenAt.is (λ m. refl) (passed_on answer.Token _ _ c.from_residual-in_err-token_at-in-TokenAt.ensures.1) (c.in_err-token_at-in-TokenAt.ensures (watched_of c.args.marks.now))
 
-pub returns-in_err-token_number : goal.returns-in_err-token_number
-returns-in_err-token_number g c kind = answers (λ m. token_of_number (text m) c.in-TokenNumber.number) answer.Token c.in-TokenNumber.is (λ m. refl) (passed_on answer.Token _ _ c.from_residual-in_err-token_number.ensures.1) (c.in_err-token_number.ensures (watched_of c.args.marks.now))
+pub returns-in_err-token_number-in-TokenNumber : goal.returns-in_err-token_number-in-TokenNumber
+returns-in_err-token_number-in-TokenNumber g c kind = answers (λ m. token_of_number (text m) c.in-TokenNumber.number) answer.Token c.in-TokenNumber.is (λ m. refl) (passed_on answer.Token _ _ c.from_residual-in_err-token_number-in-TokenNumber.ensures.1) (c.in_err-token_number-in-TokenNumber.ensures (watched_of c.args.marks.now))
 
-pub returns-in_err-bracket_at : goal.returns-in_err-bracket_at
-returns-in_err-bracket_at g c kind = answers (λ m. bracket_of_offset (text m) c.in-BracketAt.at) answer.Bracket c.in-BracketAt.is (λ m. refl) (passed_on answer.Bracket _ _ c.from_residual-in_err-bracket_at.ensures.1) (c.in_err-bracket_at.ensures (watched_of c.args.marks.now))
+pub returns-in_err-bracket_at-in-BracketAt : goal.returns-in_err-bracket_at-in-BracketAt
+returns-in_err-bracket_at-in-BracketAt g c kind = answers (λ m. bracket_of_offset (text m) c.in-BracketAt.at) answer.Bracket c.in-BracketAt.is (λ m. refl) (passed_on answer.Bracket _ _ c.from_residual-in_err-bracket_at-in-BracketAt.ensures.1) (c.in_err-bracket_at-in-BracketAt.ensures (watched_of c.args.marks.now))
 
-pub returns-in_err-mark_from : goal.returns-in_err-mark_from
-returns-in_err-mark_from g c kind = answers (λ m. mark_of_offset m.marks c.in-MarkFrom.at) answer.Mark c.in-MarkFrom.is (λ m. refl) (passed_on answer.Mark _ _ c.from_residual-in_err-mark_from.ensures.1) (unread (c.in_err-mark_from.ensures (g.S.Store.bytes c.args.store.now)))
+pub returns-in_err-mark_from-in-MarkFrom : goal.returns-in_err-mark_from-in-MarkFrom
+returns-in_err-mark_from-in-MarkFrom g c kind = answers (λ m. mark_of_offset m.marks c.in-MarkFrom.at) answer.Mark c.in-MarkFrom.is (λ m. refl) (passed_on answer.Mark _ _ c.from_residual-in_err-mark_from-in-MarkFrom.ensures.1) (unread (c.in_err-mark_from-in-MarkFrom.ensures (g.S.Store.bytes c.args.store.now)))
 
-pub returns-in_err-range : goal.returns-in_err-range
-returns-in_err-range g c kind = answers (λ m. g.A.Measure.means (slice (text m) c.in-Range.from c.in-Range.to)) answer.Range c.in-Range.is (λ m. refl) (passed_on answer.Range _ _ c.from_residual-in_err-range.ensures.1) (c.in_err-range.ensures (watched_of c.args.marks.now))
+pub returns-in_err-range-in-Range : goal.returns-in_err-range-in-Range
+returns-in_err-range-in-Range g c kind = answers (λ m. g.A.Measure.means (slice (text m) c.in-Range.from c.in-Range.to)) answer.Range c.in-Range.is (λ m. refl) (passed_on answer.Range _ _ c.from_residual-in_err-range-in-Range.ensures.1) (c.in_err-range-in-Range.ensures (watched_of c.args.marks.now))
 
-pub returns-in_err-whole : goal.returns-in_err-whole
-returns-in_err-whole g c kind = answers (λ m. summary (text m)) answer.Whole c.in-Whole.is (λ m. refl) (passed_on answer.Whole _ _ c.from_residual-in_err-whole.ensures.1) (unread (c.in_err-whole.ensures (g.S.Store.bytes c.args.store.now) (watched_of c.args.marks.now)))
+pub returns-in_err-whole-in-Whole : goal.returns-in_err-whole-in-Whole
+returns-in_err-whole-in-Whole g c kind = answers (λ m. summary (text m)) answer.Whole c.in-Whole.is (λ m. refl) (passed_on answer.Whole _ _ c.from_residual-in_err-whole-in-Whole.ensures.1) (unread (c.in_err-whole-in-Whole.ensures (g.S.Store.bytes c.args.store.now) (watched_of c.args.marks.now)))
 
-pub returns-in_ok-line_of : goal.returns-in_ok-line_of
-returns-in_ok-line_of g c kind = answers (λ m. line_of_offset (text m) c.in-LineOf.at) answer.Line c.in-LineOf.is (λ m. refl) refl (c.in_ok-line_of.ensures (watched_of c.args.marks.now))
+pub returns-in_ok-line_of-in-LineOf : goal.returns-in_ok-line_of-in-LineOf
+returns-in_ok-line_of-in-LineOf g c kind = answers (λ m. line_of_offset (text m) c.in-LineOf.at) answer.Line c.in-LineOf.is (λ m. refl) refl (c.in_ok-line_of-in-LineOf.ensures (watched_of c.args.marks.now))
 
-pub returns-in_ok-start_of : goal.returns-in_ok-start_of
-returns-in_ok-start_of g c kind = answers (λ m. start_of_line (text m) c.in-StartOf.line) answer.Start c.in-StartOf.is (λ m. refl) refl (c.in_ok-start_of.ensures (watched_of c.args.marks.now))
+pub returns-in_ok-start_of-in-StartOf : goal.returns-in_ok-start_of-in-StartOf
+returns-in_ok-start_of-in-StartOf g c kind = answers (λ m. start_of_line (text m) c.in-StartOf.line) answer.Start c.in-StartOf.is (λ m. refl) refl (c.in_ok-start_of-in-StartOf.ensures (watched_of c.args.marks.now))
 
-pub returns-in_ok-token_at : goal.returns-in_ok-token_at
-returns-in_ok-token_at g c kind = answers (λ m. token_of_offset (text m) c.in-TokenAt.at) answer.Token c.in-TokenAt.is (λ m. refl) refl (c.in_ok-token_at.ensures (watched_of c.args.marks.now))
+pub returns-in_ok-token_at-in-TokenAt : goal.returns-in_ok-token_at-in-TokenAt
+returns-in_ok-token_at-in-TokenAt g c kind = answers (λ m. token_of_offset (text m) c.in-TokenAt.at) answer.Token c.in-TokenAt.is (λ m. refl) refl (c.in_ok-token_at-in-TokenAt.ensures (watched_of c.args.marks.now))
 
-pub returns-in_ok-token_number : goal.returns-in_ok-token_number
-returns-in_ok-token_number g c kind = answers (λ m. token_of_number (text m) c.in-TokenNumber.number) answer.Token c.in-TokenNumber.is (λ m. refl) refl (c.in_ok-token_number.ensures (watched_of c.args.marks.now))
+pub returns-in_ok-token_number-in-TokenNumber : goal.returns-in_ok-token_number-in-TokenNumber
+returns-in_ok-token_number-in-TokenNumber g c kind = answers (λ m. token_of_number (text m) c.in-TokenNumber.number) answer.Token c.in-TokenNumber.is (λ m. refl) refl (c.in_ok-token_number-in-TokenNumber.ensures (watched_of c.args.marks.now))
 
-pub returns-in_ok-bracket_at : goal.returns-in_ok-bracket_at
-returns-in_ok-bracket_at g c kind = answers (λ m. bracket_of_offset (text m) c.in-BracketAt.at) answer.Bracket c.in-BracketAt.is (λ m. refl) refl (c.in_ok-bracket_at.ensures (watched_of c.args.marks.now))
+pub returns-in_ok-bracket_at-in-BracketAt : goal.returns-in_ok-bracket_at-in-BracketAt
+returns-in_ok-bracket_at-in-BracketAt g c kind = answers (λ m. bracket_of_offset (text m) c.in-BracketAt.at) answer.Bracket c.in-BracketAt.is (λ m. refl) refl (c.in_ok-bracket_at-in-BracketAt.ensures (watched_of c.args.marks.now))
 
-pub returns-in_ok-mark_from : goal.returns-in_ok-mark_from
-returns-in_ok-mark_from g c kind = answers (λ m. mark_of_offset m.marks c.in-MarkFrom.at) answer.Mark c.in-MarkFrom.is (λ m. refl) refl (unread (c.in_ok-mark_from.ensures (g.S.Store.bytes c.args.store.now)))
+pub returns-in_ok-mark_from-in-MarkFrom : goal.returns-in_ok-mark_from-in-MarkFrom
+returns-in_ok-mark_from-in-MarkFrom g c kind = answers (λ m. mark_of_offset m.marks c.in-MarkFrom.at) answer.Mark c.in-MarkFrom.is (λ m. refl) refl (unread (c.in_ok-mark_from-in-MarkFrom.ensures (g.S.Store.bytes c.args.store.now)))
 
-pub returns-in_ok-range : goal.returns-in_ok-range
-returns-in_ok-range g c kind = answers (λ m. g.A.Measure.means (slice (text m) c.in-Range.from c.in-Range.to)) answer.Range c.in-Range.is (λ m. refl) refl (c.in_ok-range.ensures (watched_of c.args.marks.now))
+pub returns-in_ok-range-in-Range : goal.returns-in_ok-range-in-Range
+returns-in_ok-range-in-Range g c kind = answers (λ m. g.A.Measure.means (slice (text m) c.in-Range.from c.in-Range.to)) answer.Range c.in-Range.is (λ m. refl) refl (c.in_ok-range-in-Range.ensures (watched_of c.args.marks.now))
 
-pub returns-in_ok-whole : goal.returns-in_ok-whole
-returns-in_ok-whole g c kind = answers (λ m. summary (text m)) answer.Whole c.in-Whole.is (λ m. refl) refl (unread (c.in_ok-whole.ensures (g.S.Store.bytes c.args.store.now) (watched_of c.args.marks.now)))
+pub returns-in_ok-whole-in-Whole : goal.returns-in_ok-whole-in-Whole
+returns-in_ok-whole-in-Whole g c kind = answers (λ m. summary (text m)) answer.Whole c.in-Whole.is (λ m. refl) refl (unread (c.in_ok-whole-in-Whole.ensures (g.S.Store.bytes c.args.store.now) (watched_of c.args.marks.now)))
 
 pub returns-in_default : goal.returns-in_default
 returns-in_default g c kind =

@@ -1,4 +1,4 @@
-use Rattle.std.proofs.Common.{vec_items, sym, ap, subst}
+use Rattle.std.proofs.Common.{vec_items, sym, subst}
 use Rattle.lines.specs.Columns.{column_bytes, Appends}
 use Rattle.lines.specs.declared.columns.Column.{Column}
 use Rattle.lines.proofs.Appending.{appends_from}

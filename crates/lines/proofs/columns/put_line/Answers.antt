@@ -1,4 +1,4 @@
-use Rattle.std.proofs.Common.{ℕ, List, [], ◌++◌, map, vec_items, sym, refl, ap, ◌∙◌}
+use Rattle.std.proofs.Common.{[], map, vec_items, refl}
 use Rattle.std.proofs.lemmas.List.{length-map, get_or-map}
 use Rattle.lines.specs.Columns.{column_bytes}
 use Rattle.lines.proofs.Appending.{kept_same, kept_more, kept_then, failed}

@@ -1,6 +1,5 @@
-use Rattle.std.proofs.Common.{◌≡◌, ℕ, ◌<◌, ◌≤◌, List, [], ◌∷◌, ◌++◌, length, get_or}
-use Rattle.measures.specs.Law.{heaviest}
-use Rattle.lexer.specs.Reading.{read_from_lem, reading}
+use Rattle.std.proofs.Common.{◌≡◌, ℕ, ◌<◌, [], length, get_or}
+use Rattle.lexer.specs.Reading.{read_from_lem}
 use Rattle.lexer.specs.RowSteps.{start}
 use Rattle.lexer.proofs.tokens.TokensMeasure.empty.Given as goal
 

@@ -1,8 +1,7 @@
 use Rattle.std.proofs.Common.{◌≡◌, ℕ, ◌≤◌, List, ◌++◌, length, get_or, ap, ◌∙◌, arith, length-set}
 use Rattle.measures.specs.Law.{heaviest}
 use Rattle.measures.specs.Weights.{weights_bytes}
-use Rattle.lexer.specs.Reading.{read_from_lem, reading, row_at}
-use Rattle.lexer.specs.declared.tokens.TokenRow.{TokenRow}
+use Rattle.lexer.specs.Reading.{read_from_lem, reading}
 use Rattle.lexer.specs.RowSteps.{start}
 use Rattle.lexer.specs.RowValues.{row_read, row_next, rows_more, rows_all}
 use Rattle.lexer.proofs.tokens.TokensMeasure.join.Goals as goal

@@ -1,4 +1,4 @@
-use Rattle.std.proofs.Common.{◌≡◌, ℕ, ◌<◌, ◌≤◌, List, [], ◌∷◌, ◌++◌, length, get_or}
+use Rattle.std.proofs.Common.{◌≡◌, ℕ, ◌<◌, ◌≤◌, List, ◌++◌, length, get_or}
 use Rattle.measures.specs.Law.{heaviest}
 use Rattle.lexer.specs.Reading.{read_from_lem, reading}
 use Rattle.lexer.specs.RowSteps.{start}
