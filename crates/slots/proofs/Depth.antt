@@ -1,8 +1,8 @@
 -- A tree of many levels has many rows. Assumes nothing.
-use Rattle.std.proofs.Common.{◌^◌, sym, refl, ap, ◌∙◌, subst, inl, inr, ⊎_elim, arith, length-append, pow_mono}
+use Rattle.std.proofs.Common.{◌^◌, ap, ⊎_elim, arith, length-append, pow_mono}
 use native.Mathlib.Nat.{two-pow-succ}
 use Rattle.std.proofs.lemmas.Bool.{cases_lt}
-use Rattle.slots.specs.Words.{◌≡◌, List, [], ◌∷◌, ◌++◌, ℕ, zero, suc, ◌+◌, ◌*◌, ◌≤◌, ◌<◌, length, Record}
+use Rattle.slots.specs.Words.{◌≡◌, List, ◌++◌, ℕ, zero, suc, ◌+◌, ◌≤◌, ◌<◌, length, Record}
 use Rattle.slots.specs.Ghost.{Twig, leaf, two, three, Arm, a1, a2, a3, a4, Finger, nil, one, deep, rows_twig, rows_arm, rows, levels, FitTwig, FitArm, Fit}
 use Rattle.slots.specs.Theorems.{Shallow}
 

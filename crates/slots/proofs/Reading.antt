@@ -1,12 +1,12 @@
 -- What reading a sound tree gives. Assumes nothing.
-use Rattle.std.proofs.Common.{sym, refl, ap, ◌∙◌, subst, arith}
+use Rattle.std.proofs.Common.{sym, ap, ◌∙◌, arith}
 use Rattle.std.proofs.lemmas.List.{get_or_default}
 use Rattle.measures.specs.Law.{Joins, heaviest}
-use Rattle.slots.specs.Words.{◌≡◌, List, [], ◌∷◌, ◌++◌, ℕ, zero, suc, ◌+◌, ◌≤◌, ◌<◌, length, get_or, Option, None, Some, Result, Ok, Err, Unsound, Digit, One, Two, Three, Four, Tree, Empty, Single, Deep, Record}
-use Rattle.slots.specs.Ghost.{Twig, leaf, two, three, Arm, a1, a2, a3, a4, Finger, nil, one, deep, none, root, digit_of, part_of, tree_of, rows_twig, rows_arm, rows_part, rows, At, FitTwig, FitArm, FitPart, Fit}
+use Rattle.slots.specs.Words.{◌≡◌, List, [], ◌++◌, ℕ, zero, suc, ◌≤◌, ◌<◌, length, get_or, Option, None, Some, Result, Ok, Unsound, Digit, One, Two, Three, Four, Tree, Single, Deep, Record}
+use Rattle.slots.specs.Ghost.{Twig, leaf, two, three, Arm, Finger, deep, none, root, rows_twig, rows_arm, rows_part, rows, FitTwig, FitArm, FitPart, Fit}
 use Rattle.slots.specs.Values.{mean, wt, JoinedOk, value_in}
 use Rattle.slots.specs.Post.{DigitValued, PartValued, TreeValued, LevelValued}
-use Rattle.slots.proofs.Shapes.{ok_err, ok_same, arm_one, arm_two, arm_three, arm_four, part_none, part_some, tree_empty, tree_single, tree_deep}
+use Rattle.slots.proofs.Shapes.{ok_err, ok_same, arm_one, arm_two, arm_three, arm_four, part_none, part_some, tree_single, tree_deep}
 use Rattle.slots.proofs.Weights.{wt_append, join_rows}
 
 module _ {R V : Type 0} (mn : List R → V) (rs : List (Record R V)) where

@@ -1,7 +1,7 @@
 -- Which ghost a digit, a tree or a result stands for. Assumes nothing.
 use Rattle.std.proofs.Common.{is_err, sym, refl, ap, ◌∙◌, subst, arith}
-use Rattle.slots.specs.Words.{◌≡◌, true, List, [], ◌∷◌, ◌++◌, ℕ, length, get_or, Option, None, Some, Result, Ok, Err, Unsound, unsound, Digit, One, Two, Three, Four, Tree, Empty, Single, Deep, Spine, Record, Level}
-use Rattle.slots.specs.Ghost.{Twig, leaf, two, three, Arm, a1, a2, a3, a4, Finger, nil, one, deep, none, root, digit_of, part_of, tree_of, Fit}
+use Rattle.slots.specs.Words.{◌≡◌, true, List, ℕ, get_or, Option, None, Some, Result, Ok, Err, Unsound, unsound, Digit, One, Two, Three, Four, Empty, Single, Deep, Spine, Record}
+use Rattle.slots.specs.Ghost.{Twig, Arm, a1, a2, a3, a4, Finger, nil, one, deep, none, root, digit_of, part_of, tree_of, Fit}
 use Rattle.slots.specs.Values.{spine_in}
 
 pub ok_err : {A E : Type 0} {r : Result A E} {v : A} {e : E} → r ≡ Ok v → r ≡ Err e → ⊥

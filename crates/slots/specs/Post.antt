@@ -1,6 +1,6 @@
 -- What the calls of this crate promise.
-use Rattle.slots.specs.Words.{◌≡◌, List, [], ◌∷◌, ◌++◌, ℕ, zero, suc, ◌+◌, ◌≤◌, ◌<◌, min, length, get_or, set, take, drop, Option, Result, Ok, Err, Unsound, unsound, Link, End, To, Digit, Tree, Record, Free, Leaf}
-use Rattle.slots.specs.Ghost.{Arm, Finger, none, head_of, digit_of, part_of, tree_of, rows_arm, rows_part, rows, FitArm, FitPart, Fit, Chain}
+use Rattle.slots.specs.Words.{◌≡◌, List, [], ◌∷◌, ◌++◌, ℕ, zero, suc, ◌+◌, ◌≤◌, ◌<◌, min, length, set, drop, Option, Result, Ok, Err, Unsound, unsound, Link, End, To, Digit, Tree, Record, Free, Leaf}
+use Rattle.slots.specs.Ghost.{Arm, Finger, head_of, digit_of, part_of, tree_of, rows_arm, rows_part, rows, FitArm, FitPart, Fit, Chain}
 use Rattle.slots.specs.Values.{mean, wt}
 use Rattle.measures.specs.Law.{heaviest}
 

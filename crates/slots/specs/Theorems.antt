@@ -1,7 +1,7 @@
 -- Laws of sound memory.
-use Rattle.slots.specs.Words.{◌≡◌, List, [], ◌∷◌, ℕ, zero, suc, ◌+◌, ◌-◌, ◌*◌, ◌≤◌, ◌<◌, length, get_or, Link, Record, Free}
+use Rattle.slots.specs.Words.{◌≡◌, List, [], ◌∷◌, ℕ, zero, suc, ◌+◌, ◌*◌, ◌≤◌, length, Record}
 use Rattle.std.specs.Prelude.{◌^◌}
-use Rattle.slots.specs.Ghost.{Twig, Finger, none, head_of, tree_of, rows_twig, rows, levels, occ_twig, occ, Fit, Chain}
+use Rattle.slots.specs.Ghost.{Twig, Finger, head_of, tree_of, rows_twig, rows, levels, occ_twig, occ, Fit, Chain}
 
 -- how often the first w slots are counted by τ
 unfoldable pub total : ℕ → (ℕ → ℕ) → ℕ

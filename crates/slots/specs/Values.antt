@@ -1,5 +1,5 @@
 -- What rows mean and weigh, and what is read from a record.
-use Rattle.slots.specs.Words.{◌≡◌, List, [], ◌∷◌, ◌++◌, ℕ, ◌≤◌, Option, None, Some, Result, Ok, Err, Unsound, unsound, Digit, One, Two, Three, Four, Tree, Record, Free, Leaf, Node2, Node3, Level, Spine}
+use Rattle.slots.specs.Words.{◌≡◌, List, [], ◌∷◌, ◌++◌, ℕ, ◌≤◌, Option, None, Some, Result, Ok, Err, Unsound, unsound, Digit, One, Two, Three, Four, Record, Free, Leaf, Node2, Node3, Level, Spine}
 use Rattle.measures.specs.Law.{weights, heaviest}
 
 -- the items that rows stand for

@@ -1,4 +1,6 @@
 // Where finger trees lie: records in a lent slice of slots, the chain of free slots, and what trees in them mean.
+#![tactic(auto)]
+
 pub mod arena;
 pub mod digits;
 pub mod records;

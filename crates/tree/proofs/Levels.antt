@@ -1,16 +1,16 @@
 -- Levels and nodes written into slots. Assumes nothing.
 use Rattle.std.proofs.Common.{sym, refl, ap, ◌∙◌, subst, append_assoc, arith}
 use Rattle.measures.specs.Law.{heaviest}
-use Rattle.tree.specs.Words.{◌≡◌, true, List, [], ◌∷◌, ◌++◌, ℕ, suc, ◌+◌, ◌≤◌, ◌<◌, length, get_or, set, Result, Ok, Err, Unsound, Link, To, Digit, Tree, Deep, Record, Free, Level, Side, Front, Back}
-use Rattle.slots.specs.Ghost.{Twig, Arm, a1, a2, a3, a4, Finger, deep, same, occ_list, head_of, none, root, digit_of, tree_of, rows_twig, rows_arm, rows, occ_twig, occ_arm, occ, At, FitTwig, FitArm, Fit, Chain, loose, Calm, Off}
+use Rattle.tree.specs.Words.{◌≡◌, List, ◌∷◌, ◌++◌, ℕ, suc, ◌+◌, ◌≤◌, ◌<◌, length, get_or, set, Result, Ok, Err, Unsound, Link, To, Digit, Tree, Deep, Record, Free, Level, Side, Front, Back}
+use Rattle.slots.specs.Ghost.{Twig, Arm, a1, a2, a3, a4, Finger, deep, same, occ_list, head_of, none, root, digit_of, tree_of, rows_twig, rows_arm, rows, occ_twig, occ_arm, occ, At, FitTwig, FitArm, Fit, Chain, Calm, Off}
 use Rattle.slots.specs.Sides.{pick, ends}
-use Rattle.slots.specs.Values.{mean, wt, JoinedOk, value_in, parts_in, node_of}
-use Rattle.slots.specs.Post.{DigitValued, Taken, Wrote, Given}
+use Rattle.slots.specs.Values.{mean, wt, JoinedOk, value_in, node_of}
+use Rattle.slots.specs.Post.{DigitValued, Taken, Wrote}
 use Rattle.tree.specs.Post.{JoinedEnds, LevelPut, NodePut, NodeTaken}
-use Rattle.slots.proofs.Frames.{same_self, Put, put, put_calm, frame_arm, frame, frame_chain}
+use Rattle.slots.proofs.Frames.{Put, put, put_calm, frame_arm, frame, frame_chain}
 use Rattle.slots.proofs.Shapes.{ok_err, ok_same}
 use Rattle.slots.proofs.Weights.{join_rows}
-use Rattle.slots.proofs.Ends.{Nodal, pack, pack_root, pack_rows, pack_occ, pack_fit, Parted, parted}
+use Rattle.slots.proofs.Ends.{Nodal, pack, pack_root, pack_rows, pack_occ, pack_fit, parted}
 
 module _ {R I V : Type 0} {weigh : I → ℕ} {means : List I → V} {rs : List (Record R V)} where
   pub join_front : {side : Side} {x i : ℕ} {v r : Result V Unsound} → side ≡ Front → v ≡ value_in (get_or rs x none) → JoinedOk weigh means v (value_in (get_or rs i none)) r → JoinedEnds weigh means rs side x i r

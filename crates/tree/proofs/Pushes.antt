@@ -1,18 +1,17 @@
 -- The paths of push. Assumes nothing.
 use Rattle.std.proofs.Common.{sym, refl, ap, ◌∙◌, subst, inl, inr, arith}
-use Rattle.measures.specs.Law.{heaviest}
-use Rattle.tree.specs.Words.{◌≡◌, List, [], ◌∷◌, ◌++◌, ℕ, suc, ◌+◌, ◌-◌, ◌≤◌, ◌<◌, length, get_or, Result, Ok, Err, Unsound, Link, To, Digit, One, Tree, Empty, Single, Deep, Record, Level, Side, Front, Back, Grown, Room, Over, Spine}
-use Rattle.slots.specs.Ghost.{Twig, Arm, a1, a2, a3, a4, Finger, nil, one, deep, same, occ_list, head_of, none, root, digit_of, tree_of, rows_twig, rows_arm, rows, levels, size, occ_twig, occ_arm, occ, FitTwig, FitArm, Fit, Chain, Off}
+use Rattle.tree.specs.Words.{◌≡◌, List, [], ◌∷◌, ℕ, suc, ◌+◌, ◌-◌, ◌≤◌, get_or, Result, Ok, Err, Unsound, Link, Digit, One, Tree, Empty, Single, Deep, Record, Side, Front, Back, Grown, Room, Over, Spine}
+use Rattle.slots.specs.Ghost.{Twig, Arm, a1, a2, a3, a4, Finger, nil, one, deep, same, occ_list, none, root, digit_of, tree_of, rows_twig, rows_arm, rows, size, occ_arm, occ, Fit, Off}
 use Rattle.slots.specs.Sides.{pick, flipped, ends, grown}
-use Rattle.slots.specs.Values.{mean, wt, value_in, spine_in}
+use Rattle.slots.specs.Values.{mean, wt, spine_in}
 use Rattle.slots.specs.Post.{Taken}
-use Rattle.tree.specs.Post.{JoinedEnds, LevelPut, NodePut, fill, load, Made, Ready, Push, Pushed}
+use Rattle.tree.specs.Post.{JoinedEnds, LevelPut, NodePut, fill, Ready, Push, Pushed}
 use Rattle.slots.proofs.Frames.{calm_then, off_refl, off_then, off_more, frame_arm, frame, frame_chain}
 use Rattle.slots.proofs.Shapes.{ok_err, ok_same, tree_empty, tree_single, tree_deep, at_level}
 use Rattle.slots.proofs.Weights.{wt_ends}
 use Rattle.slots.proofs.Reading.{twig_value, deep_value}
-use Rattle.slots.proofs.Ends.{ends_assoc, ends_nil, nil_ends, pick_flipped, sided, by_side, rows_sided, wt_sided, occ_sided, fit_sided, Roomed, roomed, Overed, overed}
-use Rattle.tree.proofs.Levels.{Leveled, side_done, Noded, node_done}
+use Rattle.slots.proofs.Ends.{ends_assoc, ends_nil, nil_ends, pick_flipped, sided, by_side, rows_sided, wt_sided, occ_sided, fit_sided, roomed, Overed, overed}
+use Rattle.tree.proofs.Levels.{side_done, Noded, node_done}
 
 module _ {R V : Type 0} where
   pub fill_sided : (s : Side) (N X : Arm R V) → fill (pick s (pick s N X) (pick s X N)) ≡ fill N

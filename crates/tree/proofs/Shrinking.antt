@@ -1,19 +1,19 @@
 -- The paths of settle, replant, plant, refill, deep and pop. Assumes nothing.
-use Rattle.std.proofs.Common.{sym, refl, ap, ◌∙◌, subst, inl, inr, append_assoc, arith}
+use Rattle.std.proofs.Common.{sym, refl, ap, ◌∙◌, subst, inr, append_assoc, arith}
 use Rattle.measures.specs.Law.{heaviest}
-use Rattle.tree.specs.Words.{◌≡◌, List, [], ◌∷◌, ◌++◌, ℕ, suc, ◌+◌, ◌-◌, ◌≤◌, ◌<◌, length, get_or, set, Option, None, Some, Result, Ok, Err, Unsound, Link, To, Digit, One, Two, Three, Four, Tree, Empty, Single, Deep, Record, Free, Level, Side, Front, Back, Peel, Spine}
-use Rattle.slots.specs.Ghost.{Twig, Arm, a1, a2, a3, a4, Finger, nil, one, deep, same, occ_list, head_of, none, root, digit_of, part_of, tree_of, rows_twig, rows_arm, rows_part, rows, levels, Full, occ_twig, occ_arm, occ_part, occ, At, FitTwig, FitArm, FitPart, Fit, Chain, Calm, Off}
+use Rattle.tree.specs.Words.{◌≡◌, List, [], ◌∷◌, ◌++◌, ℕ, suc, ◌+◌, ◌-◌, ◌≤◌, ◌<◌, length, get_or, Option, None, Some, Result, Ok, Err, Unsound, Link, Digit, One, Two, Three, Four, Tree, Empty, Single, Deep, Record, Free, Side, Front, Back, Peel, Spine}
+use Rattle.slots.specs.Ghost.{Twig, Arm, a1, a2, a3, a4, Finger, nil, one, deep, same, occ_list, head_of, none, root, digit_of, tree_of, rows_twig, rows_arm, rows_part, rows, levels, Full, occ_twig, occ_arm, occ_part, occ, At, FitTwig, FitArm, FitPart, Fit, Chain, Calm, Off}
 use Rattle.slots.specs.Sides.{pick, flipped, ends, peeled}
 use Rattle.slots.specs.Values.{mean, wt, spine_in}
 use Rattle.slots.specs.Post.{LevelValued, Taken, Given}
 use Rattle.tree.specs.declared.ends.Popped.{Popped}
-use Rattle.tree.specs.Post.{LevelPut, NodeTaken, Made, Shrunk, Parts, Whole, Settled, Refilled, Deepened, Replanted, Planted, Has, Pop, Pops, PopsFirst}
-use Rattle.slots.proofs.Frames.{same_self, calm_then, off_refl, off_then, off_more, Put, put, put_calm, frame_twig, frame_arm, frame_part, frame, frame_chain}
+use Rattle.tree.specs.Post.{LevelPut, NodeTaken, Shrunk, Parts, Whole, Settled, Refilled, Deepened, Replanted, Planted, Has, Pop, Pops, PopsFirst}
+use Rattle.slots.proofs.Frames.{calm_then, off_refl, off_then, off_more, put, put_calm, frame_twig, frame_arm, frame, frame_chain}
 use Rattle.slots.proofs.Shapes.{ok_err, ok_same, arm_one, arm_two, arm_three, arm_four, part_none, part_some, tree_empty, tree_single, tree_deep, at_level}
 use Rattle.slots.proofs.Weights.{wt_append, wt_ends}
 use Rattle.slots.proofs.Depth.{few_levels}
 use Rattle.slots.proofs.Ends.{ends_assoc, ends_nil, nil_ends, pick_flipped, sided, by_side, rows_sided, wt_sided, occ_sided, fit_sided, Peeled, peel_arm}
-use Rattle.tree.proofs.Levels.{Leveled, side_done, Unpacked, unpacked}
+use Rattle.tree.proofs.Levels.{side_done, unpacked}
 
 popped_is : (p : Popped) (x : ℕ) (t : Tree) → p.slot ≡ x → p.rest ≡ t → p ≡ record { slot = x; rest = t }
 popped_is p x t ex et = ap (λ q. record { slot = q; rest = p.rest }) ex ∙ ap (λ q. record { slot = x; rest = q }) et

@@ -29,7 +29,7 @@ loop-rest-preserved c =
     let short = c.first_line.ensures.shorter some in (
       machine_round i _ _ c.loop-rest.rest.now c.first_line.result.0.now c.first_line.result.1.now _
           (vec_items c.loop-rest.out) (vec_items c.print_fault.new.out) _
-          (c.first_line.ensures.lines some) (c.in-Err.ensures i) c.in_ok-print_fault.ensures c.loop-rest.invariant.0,
+          (c.first_line.ensures.lines some) (c.in-Err.ensures i) c.in_ok-print_fault-in-Err.ensures c.loop-rest.invariant.0,
       omega (arith, c.loop-rest.invariant.1),
     )
 

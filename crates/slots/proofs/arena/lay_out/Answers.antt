@@ -1,4 +1,4 @@
-use Rattle.std.proofs.Common.{◌≡◌, ℕ, ◌+◌, ◌-◌, ◌<◌, ◌≤◌, length, sym, refl, subst, arith, rules}
+use Rattle.std.proofs.Common.{◌≡◌, ◌+◌, ◌-◌, ◌<◌, length, refl, subst, arith}
 use Rattle.slots.specs.Post.{watched}
 use Rattle.slots.proofs.Laying.{Laying, laying_none, laying_more, laid_out}
 use Rattle.slots.proofs.arena.lay_out.Goals as goal
