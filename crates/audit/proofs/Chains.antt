@@ -3,8 +3,8 @@ use Rattle.std.proofs.Common.{is_err, sym, refl, ap, ◌∙◌, subst, arith}
 use Rattle.slots.specs.Ghost.{same, occ_list, none, head_of, At, Chain}
 use Rattle.slots.proofs.Frames.{same_self}
 use Rattle.slots.proofs.Shapes.{err_only}
-use Rattle.audit.specs.Words.{◌≡◌, true, List, [], ◌∷◌, ℕ, ◌+◌, ◌≤◌, length, get_or, Result, Ok, Err, Unsound, unsound, Link, End, To, Record, Free}
-use Rattle.audit.specs.Visits.{mark, Enter, Entered, ChainFound, NoChain, ChainVisited}
+use Rattle.audit.specs.Words.{◌≡◌, true, List, [], ◌∷◌, ℕ, ◌+◌, ◌≤◌, get_or, Result, Ok, Err, Unsound, unsound, Link, End, To, Record, Free}
+use Rattle.audit.specs.Visits.{mark, Enter, Entered, NoChain, ChainVisited}
 use Rattle.audit.proofs.Marks.{enter_marks, enter_once, entered, not_entered}
 
 module _ {R V : Type 0} where

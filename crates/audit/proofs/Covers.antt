@@ -6,16 +6,15 @@ use Rattle.std.specs.List.{HoldsAt, AllByRecursion as All}
 use Rattle.std.proofs.lemmas.List.{get_or_past, get_or-replicate, get_or_default, length-take-le}
 use Rattle.std.proofs.lemmas.Bool.{cases_lt, cases_eq, both_ways}
 use Rattle.measures.specs.Law.{heaviest}
-use Rattle.slots.specs.Ghost.{Finger, named, occ_list, rows}
+use Rattle.slots.specs.Ghost.{named, occ_list}
 use Rattle.slots.specs.Values.{mean, wt}
 use Rattle.slots.specs.Theorems.{occ_trees}
 use Rattle.slots.proofs.Counts.{named_one}
 use Rattle.slots.proofs.Same.{chain_same}
 use Rattle.slots.proofs.Shapes.{err_only}
-use Rattle.audit.specs.Words.{◌≡◌, Bool, true, false, List, [], ◌∷◌, ◌++◌, ℕ, ◌+◌, ◌-◌, ◌≤◌, ◌<◌, length, get_or, take, drop, replicate, Result, Ok, Err, Unsound, unsound, Link, Tree, Record}
+use Rattle.audit.specs.Words.{◌≡◌, Bool, true, false, List, [], ◌++◌, ℕ, ◌+◌, ◌-◌, ◌≤◌, ◌<◌, length, take, drop, replicate, Result, Ok, Err, Unsound, Link, Tree, Record}
 use Rattle.audit.specs.Checks.{Rules}
-use Rattle.audit.specs.Sound.{rows_trees, Sound}
-use Rattle.audit.specs.Visits.{mark, unmarked, Moment, moment, ChainVisited, ChainFound, AreTrees, trees_at, Found, Cases, Visited}
+use Rattle.audit.specs.Visits.{mark, moment, ChainVisited, ChainFound, AreTrees, trees_at, Found, Cases, Visited}
 use Rattle.audit.specs.Post.{Zeroed, Checked, SoundTo, Audited}
 use Rattle.audit.specs.Surveys.{Verdict, Surveyed, SurveyedFresh}
 use Rattle.audit.specs.declared.AuditFault.TheVariants.{ShortScratch}

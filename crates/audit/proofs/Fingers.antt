@@ -1,20 +1,18 @@
 -- Visits of trees. Assumes nothing.
 use Rattle.std.proofs.Common.{is_err, sym, refl, ap, ◌∙◌, subst, arith}
-use Rattle.measures.specs.Law.{heaviest}
-use Rattle.slots.specs.Ghost.{Twig, Arm, Finger, nil, one, deep, same, root, digit_of, tree_of, rows_arm, rows, levels, occ_arm, occ, At, FitArm, Fit}
+use Rattle.slots.specs.Ghost.{Finger, nil, one, deep, same, digit_of, tree_of, levels, occ_arm, occ, At, Fit}
 use Rattle.slots.specs.Values.{mean}
 use Rattle.slots.specs.Post.{LevelValued}
 use Rattle.slots.proofs.Frames.{same_self}
 use Rattle.slots.proofs.Shapes.{tree_single}
 use Rattle.slots.proofs.Same.{at_same, tree_same}
-use Rattle.audit.specs.Words.{◌≡◌, true, List, [], ◌∷◌, ◌++◌, ℕ, zero, suc, ◌+◌, ◌≤◌, ◌<◌, length, Result, Ok, Err, Unsound, Digit, Tree, Empty, Single, Deep, Record, Level}
+use Rattle.audit.specs.Words.{◌≡◌, true, List, [], ℕ, suc, ◌+◌, ◌≤◌, ◌<◌, Result, Ok, Err, Unsound, Digit, Tree, Empty, Single, Deep, Record, Level}
 use Rattle.audit.specs.Checks.{Rules}
-use Rattle.audit.specs.Visits.{mark, unmarked, deepest, Moment, moment, Confirmed, Enter, Entered, IsTwig, IsArm, IsTree, Kind, twig_at, arm_at, tree_at, Visited}
+use Rattle.audit.specs.Visits.{unmarked, deepest, Moment, moment, Confirmed, Entered, Kind, twig_at, arm_at, tree_at, Visited}
 use Rattle.audit.specs.declared.budget.Budget.{Budget}
 use Rattle.audit.proofs.Marks.{enter_falls, entered, not_entered}
 use Rattle.audit.proofs.Checking.{stays_same}
-use Rattle.audit.proofs.Steps.{Sole, both, worth, below, Made, sole_both, refused, enter_then, valued, not_found, seq, stop, seen_as}
-use Rattle.audit.proofs.Twigs.{sole_arm}
+use Rattle.audit.proofs.Steps.{Sole, both, worth, below, Made, refused, enter_then, valued, not_found, seen_as}
 
 module _ {R V : Type 0} (rs : List (Record R V)) where
   pub sole_tree : (k : ℕ) (t : Tree) → Sole (tree_at rs k t)

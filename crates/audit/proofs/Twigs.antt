@@ -2,16 +2,16 @@
 use Rattle.std.proofs.Common.{is_err, sym, refl, ap, ◌∙◌, subst, arith}
 use Rattle.std.specs.List.{AllByRecursion as All}
 use Rattle.std.proofs.lemmas.List.{append-nil}
-use Rattle.measures.specs.Law.{weights, heaviest}
-use Rattle.slots.specs.Ghost.{Twig, leaf, two, three, Arm, a1, a2, a3, a4, same, none, root, digit_of, rows_twig, rows_arm, occ_twig, occ_arm, At, FitTwig, FitArm}
+use Rattle.measures.specs.Law.{weights}
+use Rattle.slots.specs.Ghost.{Twig, leaf, two, three, Arm, a1, a2, a3, a4, same, root, digit_of, rows_twig, rows_arm, occ_twig, occ_arm, At, FitTwig, FitArm}
 use Rattle.slots.specs.Values.{flat, mean, wt, node_of}
 use Rattle.slots.specs.Post.{DigitValued}
 use Rattle.slots.proofs.Frames.{same_self}
 use Rattle.slots.proofs.Shapes.{arm_one, arm_two, arm_three, arm_four}
 use Rattle.slots.proofs.Same.{at_same, twig_same, arm_same}
-use Rattle.audit.specs.Words.{◌≡◌, true, List, [], ◌∷◌, ◌++◌, ℕ, zero, suc, ◌+◌, ◌-◌, ◌≤◌, ◌<◌, length, get_or, Result, Ok, Err, Unsound, Digit, One, Two, Three, Four, Record, Free, Leaf, Node2, Node3, Level}
+use Rattle.audit.specs.Words.{◌≡◌, true, List, [], ◌∷◌, ℕ, zero, suc, ◌+◌, ◌-◌, ◌≤◌, ◌<◌, length, Result, Ok, Err, Unsound, Digit, One, Two, Three, Four, Record, Free, Leaf, Node2, Node3, Level}
 use Rattle.audit.specs.Checks.{Judged, Passes, Rules, Stays}
-use Rattle.audit.specs.Visits.{mark, unmarked, Moment, moment, Spent, Spends, Confirmed, Enter, Entered, IsTwig, IsArm, IsNode, Kind, twig_at, arm_at, node_at, mean_at, wt_at, Cases, Visited}
+use Rattle.audit.specs.Visits.{unmarked, Moment, moment, Spent, Spends, Confirmed, Enter, Entered, twig_at, arm_at, node_at, Cases, Visited}
 use Rattle.audit.specs.declared.budget.Budget.{Budget}
 use Rattle.audit.proofs.Marks.{enter_marks, enter_once, enter_falls, entered, not_entered}
 use Rattle.audit.proofs.Steps.{Sole, both, worth, below, Made, refused, enter_then, valued, not_found, seen_as}

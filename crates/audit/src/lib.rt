@@ -1,4 +1,6 @@
 // Whether memory is sound, answered for any contents: no slot is relied on before it has been visited.
+#![tactic(auto)]
+
 ghost use Rattle.std.specs.Prelude.{◌≡◌};
 ghost use Rattle.audit.specs.Checks.{rules};
 ghost use Rattle.audit.specs.Post.{Audited};

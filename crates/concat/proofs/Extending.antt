@@ -1,13 +1,13 @@
 -- The paths of bundle, extend_down and extend_past. Assumes nothing.
-use Rattle.std.proofs.Common.{sym, refl, ap, ◌∙◌, subst, inl, inr, ⊎_elim, append_assoc, arith, length-append}
+use Rattle.std.proofs.Common.{sym, refl, ap, ◌∙◌, subst, inr, ⊎_elim, append_assoc, arith, length-append}
 use Rattle.measures.specs.Law.{heaviest}
-use Rattle.tree.specs.Words.{◌≡◌, List, [], ◌∷◌, ◌++◌, ◌⊎◌, ℕ, zero, suc, ◌+◌, ◌*◌, ◌≤◌, ◌<◌, length, get_or, Option, None, Some, Result, Ok, Err, Unsound, Link, Digit, One, Two, Three, Four, Tree, Record, Side, Front, Back, Peel}
-use Rattle.slots.specs.Ghost.{Twig, Arm, a1, a2, a3, a4, Finger, nil, one, deep, same, occ_list, head_of, none, root, digit_of, part_of, tree_of, rows_twig, rows_arm, rows_part, rows, levels, size, size_part, occ_twig, occ_arm, occ_part, occ, FitTwig, FitArm, FitPart, Fit, Chain, Off}
+use Rattle.tree.specs.Words.{◌≡◌, List, [], ◌++◌, ℕ, zero, suc, ◌+◌, ◌*◌, ◌≤◌, length, Option, None, Some, Result, Ok, Err, Unsound, Link, Digit, Tree, Record, Side, Peel}
+use Rattle.slots.specs.Ghost.{Twig, Arm, a1, a2, a3, a4, Finger, nil, one, deep, occ_list, head_of, digit_of, part_of, tree_of, rows_twig, rows_arm, rows_part, rows, levels, size, size_part, occ_arm, occ_part, occ, FitArm, FitPart, Fit, Chain}
 use Rattle.slots.specs.Sides.{pick, flipped, ends, peeled}
 use Rattle.slots.specs.Values.{mean, wt}
-use Rattle.tree.specs.Post.{fill, load, Made, Ready, Push, Pushed}
+use Rattle.tree.specs.Post.{fill, load, Push, Pushed}
 use Rattle.concat.specs.declared.bundles.Batch.{Batch}
-use Rattle.concat.specs.Post.{times, Stock, Coming, Fed, FedPart, Nodes, Finished, Bundled, Beyond, Extend, Extended, ExtendPast, ExtendedPast}
+use Rattle.concat.specs.Post.{times, Stock, Fed, FedPart, Finished, Bundled, Beyond, Extend, Extended, ExtendedPast}
 use Rattle.slots.proofs.Frames.{occ_list_append, calm_then, off_refl, off_then, off_more, frame_twig, frame_arm, frame_part}
 use Rattle.slots.proofs.Shapes.{ok_err, ok_same, part_none, part_some}
 use Rattle.slots.proofs.Weights.{wt_append, wt_ends, wt_text}

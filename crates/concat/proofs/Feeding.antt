@@ -2,17 +2,17 @@
 use Rattle.std.proofs.Common.{sym, refl, ap, ◌∙◌, subst, inr, append_assoc, arith, length-append}
 use Rattle.std.proofs.lemmas.List.{append-nil}
 use Rattle.measures.specs.Law.{heaviest}
-use Rattle.tree.specs.Words.{◌≡◌, List, [], ◌∷◌, ◌++◌, ℕ, suc, ◌+◌, ◌*◌, ◌≤◌, ◌<◌, length, get_or, Option, None, Some, Result, Ok, Err, Unsound, Link, To, Digit, One, Two, Three, Four, Record, Side, Front, Back, Grown, Room, Over, Peel}
-use Rattle.slots.specs.Ghost.{Twig, Arm, a1, a2, a3, a4, same, occ_list, head_of, none, root, digit_of, part_of, rows_twig, rows_arm, rows_part, size, size_part, occ_twig, occ_arm, occ_part, FitTwig, FitArm, FitPart, Chain, Off}
+use Rattle.tree.specs.Words.{◌≡◌, List, [], ◌∷◌, ◌++◌, ℕ, suc, ◌+◌, ◌≤◌, Option, None, Some, Result, Ok, Err, Unsound, Link, To, Digit, Two, Four, Record, Front, Back, Grown, Room, Over, Peel}
+use Rattle.slots.specs.Ghost.{Twig, Arm, a1, a2, a3, a4, same, occ_list, head_of, root, digit_of, part_of, rows_twig, rows_arm, rows_part, size, size_part, occ_twig, occ_arm, occ_part, FitTwig, FitArm, FitPart, Chain, Off}
 use Rattle.slots.specs.Sides.{grown, peeled}
 use Rattle.slots.specs.Values.{mean, wt}
 use Rattle.tree.specs.Post.{NodePut}
 use Rattle.concat.specs.declared.bundles.Batch.{Batch}
 use Rattle.concat.specs.Post.{added, Stock, Coming, Fed, FedOne, FedPart, Nodes, Finished}
-use Rattle.slots.proofs.Frames.{occ_list_append, calm_then, off_refl, off_then, off_more, frame_twig, frame_arm, frame_part, frame_chain}
+use Rattle.slots.proofs.Frames.{occ_list_append, calm_then, off_refl, off_then, off_more, frame_twig, frame_arm, frame_part}
 use Rattle.slots.proofs.Shapes.{ok_err, ok_same, arm_four, part_none, part_some}
 use Rattle.slots.proofs.Weights.{wt_append, wt_text}
-use Rattle.slots.proofs.Ends.{Nodal, size_one, Roomed, roomed, Overed, overed, Peeled, peel_arm}
+use Rattle.slots.proofs.Ends.{Nodal, size_one, roomed, Overed, overed, Peeled, peel_arm}
 use Rattle.tree.proofs.Levels.{Noded, node_done}
 
 module _ {R V : Type 0} where

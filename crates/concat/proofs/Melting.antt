@@ -2,13 +2,13 @@
 use Rattle.std.proofs.Common.{sym, refl, ap, ◌∙◌, subst, append_assoc, arith, length-append}
 use Rattle.std.proofs.lemmas.List.{append-nil}
 use Rattle.measures.specs.Law.{heaviest}
-use Rattle.tree.specs.Words.{◌≡◌, List, [], ◌∷◌, ◌++◌, ℕ, suc, ◌+◌, ◌-◌, ◌*◌, ◌≤◌, ◌<◌, length, get_or, Option, None, Some, Result, Ok, Err, Unsound, Link, To, Digit, Tree, Empty, Single, Deep, Record, Free, Side, Front, Back, Spine}
-use Rattle.slots.specs.Ghost.{Twig, Arm, Finger, nil, one, deep, same, occ_list, head_of, none, root, digit_of, part_of, tree_of, rows_twig, rows_arm, rows_part, rows, levels, size_part, occ_twig, occ_arm, occ_part, occ, At, FitTwig, FitArm, FitPart, Fit, Chain, Off}
+use Rattle.tree.specs.Words.{◌≡◌, List, [], ◌∷◌, ◌++◌, ℕ, suc, ◌+◌, ◌-◌, ◌≤◌, length, get_or, Option, None, Some, Result, Ok, Err, Unsound, Link, Digit, Tree, Empty, Single, Deep, Record, Free, Side, Front, Back, Spine}
+use Rattle.slots.specs.Ghost.{Arm, Finger, nil, deep, occ_list, head_of, none, digit_of, part_of, tree_of, rows_twig, rows_arm, rows_part, rows, occ_arm, occ_part, occ, At, FitPart, Fit, Chain, Off}
 use Rattle.slots.specs.Sides.{pick}
 use Rattle.slots.specs.Holds.{most, spare, Beside}
 use Rattle.slots.specs.Values.{mean, wt, JoinedOk, value_in, spine_in}
 use Rattle.slots.specs.Post.{Given, DigitValued}
-use Rattle.tree.specs.Post.{LevelPut, Made}
+use Rattle.tree.specs.Post.{LevelPut}
 use Rattle.concat.specs.Post.{Nodes, Bundled, JoinedBetween, Extended, ExtendedPast, Meeting, Melt, Melted, Extension, Extends, Concat}
 use Rattle.slots.proofs.Frames.{same_self, occ_list_append, calm_then, off_then, off_more, Put, put, put_calm, frame_at, frame_arm, frame, frame_chain}
 use Rattle.slots.proofs.Shapes.{ok_err, ok_same, part_none, part_some, tree_empty, tree_single, tree_deep, at_level}
@@ -16,8 +16,8 @@ use Rattle.slots.proofs.Weights.{wt_append, join_rows}
 use Rattle.slots.proofs.Depth.{few_levels}
 use Rattle.slots.proofs.Reading.{deep_value}
 use Rattle.slots.proofs.Ends.{part_four, wt_sided}
-use Rattle.tree.proofs.Levels.{Leveled, level_done}
-use Rattle.concat.proofs.Extending.{Stretch, stretch}
+use Rattle.tree.proofs.Levels.{level_done}
+use Rattle.concat.proofs.Extending.{stretch}
 
 module _ {R I V : Type 0} {weigh : I → ℕ} {means : List I → V} {rs : List (Record R V)} {i j : ℕ} {p : Option Digit} {v r : Result V Unsound} where
   pub between_none : p ≡ None → v ≡ value_in (get_or rs i none) → JoinedOk weigh means v (value_in (get_or rs j none)) r → JoinedBetween weigh means rs i p j r

@@ -1,4 +1,6 @@
 // Opening a text over a store and two lent slices of slots.
+#![tactic(auto)]
+
 ghost use Rattle.opening.specs.Opened.{Opens};
 
 use crate::filling::{BLOCK, fill};

@@ -1,12 +1,12 @@
 -- A slice in the middle of an edit: what holds from call to call, and what is left of it at the end.
-use Rattle.std.proofs.Common.{◌≡◌, ℕ, zero, suc, ◌+◌, ◌*◌, ◌<◌, ◌≤◌, Bool, true, false, ◌⊎◌, List, [], ◌∷◌, ◌++◌, length, get_or, Option, sym, refl, ap, ◌∙◌, subst, inl, inr, ⊎_elim, arith, length-append}
+use Rattle.std.proofs.Common.{◌≡◌, ℕ, zero, suc, ◌+◌, ◌*◌, ◌<◌, ◌≤◌, true, false, ◌⊎◌, List, [], ◌∷◌, ◌++◌, length, get_or, Option, refl, ap, ◌∙◌, inl, inr, ⊎_elim, arith, length-append}
 use Rattle.std.proofs.lemmas.Bool.{cases_lt}
 use Rattle.slots.specs.Ghost.{Twig, leaf, two, three, Arm, a1, a2, a3, a4, Finger, nil, one, deep, same, named, occ_list, head_of, none, levels, occ_twig, occ_arm, occ_part, occ, At, FitTwig, FitArm, FitPart, Fit, Chain, loose, Calm, Off}
 use Rattle.slots.specs.Theorems.{total}
 use Rattle.slots.specs.declared.records.Link.{Link}
 use Rattle.slots.specs.declared.records.Record.{Record}
-use Rattle.slots.specs.declared.records.Record.TheVariants.{Free, Leaf, Node2, Node3, Level}
-use Rattle.slots.proofs.Frames.{same_self, same_cases, occ_list_append, calm_then, frame, frame_part}
+use Rattle.slots.specs.declared.records.Record.TheVariants.{Free}
+use Rattle.slots.proofs.Frames.{same_cases, occ_list_append, calm_then, frame, frame_part}
 use Rattle.slots.proofs.Counts.{named_le, named_one, supply}
 use Rattle.pieces.specs.Edited.{Fresh}
 

@@ -1,5 +1,5 @@
 -- The paths of making a leaf and of cutting one.
-use Rattle.std.proofs.Common.{◌≡◌, ℕ, ◌+◌, ◌-◌, ◌<◌, ◌≤◌, min, Bool, true, false, cond, eqb, leb, ◌⊎◌, List, [], ◌∷◌, ◌++◌, length, get_or, set, Some, None, Ok, Err, Option, Result, sym, refl, ap, ◌∙◌, subst, ap₂, inl, inr, arith, length-append, length-set}
+use Rattle.std.proofs.Common.{◌≡◌, ℕ, ◌+◌, ◌-◌, ◌<◌, ◌≤◌, min, Bool, true, false, cond, eqb, leb, ◌⊎◌, List, [], ◌∷◌, ◌++◌, length, get_or, set, Some, None, Ok, Err, Option, Result, sym, refl, ap, ◌∙◌, subst, ap₂, inl, inr, arith, length-append}
 use Rattle.std.proofs.lemmas.Bool.{eqb-true, eqb-false, leb-true, leb-false, eq-eqb, ne_eqb, le-leb, lt-leb}
 use Rattle.stores.specs.Stores.{largest}
 use Rattle.slots.specs.Ghost.{Arm, a1, leaf, same, occ_list, none, head_of, part_of, rows_part, size_part, occ_part, At, FitPart, Chain, Calm, Off}
@@ -11,7 +11,7 @@ use Rattle.slots.specs.declared.records.Digit.{Digit}
 use Rattle.slots.specs.declared.records.Digit.TheVariants.{One}
 use Rattle.slots.specs.declared.records.Record.{Record}
 use Rattle.slots.specs.declared.records.Record.TheVariants.{Free, Leaf}
-use Rattle.slots.proofs.Frames.{same_self, same_cases, occ_list_append, calm_then, off_refl, off_then, off_more, Put, put, put_calm, frame_at, frame_part, frame_chain}
+use Rattle.slots.proofs.Frames.{occ_list_append, calm_then, off_refl, off_then, off_more, Put, put, put_calm, frame_part, frame_chain}
 use Rattle.slots.proofs.Shapes.{ok_err, ok_same}
 use Rattle.pieces.specs.Rows.{row, bytes_of, Good, front_of, rest_of, RowMeasured}
 use Rattle.pieces.specs.Leaves.{Bounded, PartPut, Cuttable, Cut, EndsKept}

@@ -1,5 +1,5 @@
 -- A tree whose rows mean the same by two readings fits by the one if by the other; so it does when the store grows.
-use Rattle.std.proofs.Common.{◌≡◌, ℕ, zero, suc, List, [], ◌∷◌, ◌++◌, sym, ap, ◌∙◌}
+use Rattle.std.proofs.Common.{◌≡◌, ℕ, zero, suc, List, ◌++◌, sym, ap, ◌∙◌}
 use Rattle.slots.specs.Ghost.{Twig, leaf, two, three, Arm, a1, a2, a3, a4, Finger, nil, one, deep, rows_twig, rows_arm, rows, FitTwig, FitArm, Fit}
 use Rattle.slots.specs.declared.records.Record.{Record}
 use Rattle.pieces.specs.Rows.{AllGood}

@@ -1,11 +1,11 @@
 -- Marks by their gaps against the marks of the plain machine: what moving, dropping and adding one does.
-use Rattle.std.proofs.Common.{◌≡◌, ℕ, suc, ◌+◌, ◌-◌, ◌<◌, ◌≤◌, Bool, true, false, cond, ltb, leb, ◌⊎◌, List, [], ◌∷◌, ◌++◌, length, Some, None, Option, sym, refl, ap, ◌∙◌, ap₂, inl, inr, arith}
+use Rattle.std.proofs.Common.{◌≡◌, ℕ, ◌+◌, ◌-◌, ◌<◌, ◌≤◌, Bool, cond, ltb, leb, ◌⊎◌, List, [], ◌∷◌, ◌++◌, length, Some, None, Option, refl, ap, ◌∙◌, ap₂, inl, inr, arith}
 use Rattle.std.proofs.lemmas.Bool.{le-leb, lt-leb, lt-ltb, le-ltb}
 use Rattle.plain.specs.Lists.{find}
 use Rattle.plain.specs.Marks.{mark_at, grown, shrunk, marked}
 use Rattle.plain.specs.declared.answers.Mark.{Mark}
 use Rattle.measures.specs.Law.{weights}
-use Rattle.measures.specs.MarkTotals.{gaps, totals_of_marks, placed}
+use Rattle.measures.specs.MarkTotals.{gaps, placed}
 use Rattle.measures.specs.declared.mark_totals.MarkRow.{MarkRow}
 use Rattle.slots.specs.Values.{flat, wt}
 use Rattle.pieces.specs.Sound.{itself}

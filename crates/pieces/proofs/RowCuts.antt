@@ -1,7 +1,7 @@
 -- Where two offsets part the rows: what an insert, a delete and a cut leave, as rows.
-use Rattle.std.proofs.Common.{◌≡◌, ℕ, suc, ◌+◌, ◌-◌, ◌<◌, ◌≤◌, Bool, true, false, cond, eqb, leb, List, [], ◌∷◌, ◌++◌, map, length, sym, refl, ap, ◌∙◌, subst, ap₂, append_assoc, append-nil, arith, length-append}
+use Rattle.std.proofs.Common.{◌≡◌, ℕ, ◌+◌, ◌-◌, ◌<◌, ◌≤◌, Bool, cond, List, [], ◌∷◌, ◌++◌, map, length, sym, ap, ◌∙◌, subst, ap₂, append_assoc, append-nil, arith}
 use Rattle.std.proofs.lemmas.Bool.{lt-leb, ne_eqb}
-use Rattle.plain.specs.Pieces.{Piece, piece, before, after, between}
+use Rattle.plain.specs.Pieces.{Piece, before, after, between}
 use Rattle.pieces.specs.Rows.{row, piece_of, Good, AllGood, front_of, rest_of, sizes}
 use Rattle.pieces.specs.declared.rows.PieceRow.{PieceRow}
 use Rattle.pieces.proofs.RowParts.{map_append, sizes_append, all_append, all_left, all_right, front_good, before_at, after_at, before_all, after_all}

@@ -1,10 +1,9 @@
 -- Rows against the pieces of the plain machine: what they spell, and where an offset parts them.
-use Rattle.std.proofs.Common.{◌≡◌, ℕ, suc, ◌+◌, ◌-◌, ◌*◌, ◌<◌, ◌≤◌, Bool, true, false, cond, eqb, leb, List, [], ◌∷◌, ◌++◌, map, length, take, drop, sym, refl, ap, ◌∙◌, ap₂, append_assoc, append-nil, arith, length-append}
-use Rattle.std.proofs.lemmas.Bool.{le-leb, lt-leb, eq-eqb, ne_eqb, leb-true, leb-false, eqb-true, eqb-false}
-use Rattle.plain.specs.Pieces.{Piece, piece, spell, before, after}
-use Rattle.plain.specs.Laws as laws
-use Rattle.plain.proofs.Spelling.{good_append, good_more, spell_more, spelled}
-use Rattle.measures.specs.Law.{weights, heaviest}
+use Rattle.std.proofs.Common.{◌≡◌, ℕ, suc, ◌+◌, ◌-◌, ◌*◌, ◌<◌, ◌≤◌, Bool, true, false, cond, eqb, leb, List, [], ◌∷◌, ◌++◌, map, length, sym, refl, ap, ◌∙◌, ap₂, arith, length-append}
+use Rattle.std.proofs.lemmas.Bool.{le-leb, lt-leb, eq-eqb, ne_eqb, leb-true, leb-false, eqb-false}
+use Rattle.plain.specs.Pieces.{piece, spell, before, after}
+use Rattle.plain.proofs.Spelling.{spell_more, spelled}
+use Rattle.measures.specs.Law.{heaviest}
 use Rattle.slots.specs.Values.{flat, wt}
 use Rattle.pieces.specs.Rows.{row, piece_of, bytes_of, Good, AllGood, front_of, rest_of, sizes}
 use Rattle.pieces.specs.declared.rows.PieceRow.{PieceRow}

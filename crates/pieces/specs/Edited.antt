@@ -10,7 +10,7 @@ use Rattle.slots.specs.Ghost.{occ_list, none, levels}
 use Rattle.slots.specs.declared.records.Link.{Link}
 use Rattle.slots.specs.declared.records.Record.{Record}
 use Rattle.slots.specs.declared.records.Record.TheVariants.{Free}
-use Rattle.pieces.specs.Sound.{TextValue, Mode, Sound, Spells}
+use Rattle.pieces.specs.Sound.{TextValue, Mode, Spells}
 use Rattle.pieces.specs.declared.rows.PieceRow.{PieceRow}
 use Rattle.pieces.specs.declared.head.Head.{Head}
 

@@ -1,5 +1,5 @@
 -- What making and cutting leaves promises.
-use Rattle.std.specs.Prelude.{◌≡◌, ℕ, ◌+◌, ◌≤◌, List, [], ◌∷◌, length, Some, None, Ok, Err, Option, Result, slice_index_or, slice_set}
+use Rattle.std.specs.Prelude.{◌≡◌, ℕ, ◌+◌, ◌≤◌, List, [], ◌∷◌, length, Some, None, Ok, Option, Result, slice_index_or, slice_set}
 use Rattle.stores.specs.Stores.{largest}
 use Rattle.slots.specs.Ghost.{Arm, same, occ_list, none, head_of, part_of, rows_part, size_part, occ_part, At, FitPart, Chain, Calm, Off}
 use Rattle.slots.specs.Values.{mean}

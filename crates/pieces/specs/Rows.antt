@@ -1,5 +1,5 @@
 -- Rows of pieces, what they stand for in a store, and what reading them gives.
-use Rattle.std.specs.Prelude.{◌≡◌, ℕ, ◌+◌, ◌-◌, ◌≤◌, cond, List, [], ◌∷◌, map, length, take, drop, Ok, Err, Result, ◌==◌, nat_le}
+use Rattle.std.specs.Prelude.{◌≡◌, ℕ, ◌+◌, ◌-◌, ◌≤◌, cond, List, [], ◌∷◌, map, length, take, drop, Ok, Result, ◌==◌, nat_le}
 use Rattle.plain.specs.Pieces.{Piece, piece}
 use Rattle.plain.specs.Laws as laws
 use Rattle.stores.specs.Stores.{largest, summed}

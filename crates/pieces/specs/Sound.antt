@@ -11,7 +11,7 @@ use Rattle.measures.specs.declared.mark_totals.MarkRow.{MarkRow}
 use Rattle.measures.specs.declared.mark_totals.MarkTotals.{MarkTotals}
 use Rattle.lexer.specs.Reading.{reading}
 use Rattle.lexer.specs.declared.tokens.TokenRow.{TokenRow}
-use Rattle.slots.specs.Ghost.{Finger, named, occ_list, head_of, tree_of, rows, levels, occ, Fit, Chain}
+use Rattle.slots.specs.Ghost.{Finger, named, occ_list, head_of, tree_of, rows, occ, Fit, Chain}
 use Rattle.slots.specs.Values.{mean}
 use Rattle.slots.specs.declared.records.Record.{Record}
 use Rattle.slots.specs.declared.records.Link.{Link}

@@ -1,5 +1,5 @@
 -- The paths of release_part, release_down and release. Assumes nothing.
-use Rattle.std.proofs.Common.{◌≡◌, ℕ, zero, suc, ◌+◌, ◌-◌, ◌<◌, ◌≤◌, List, [], ◌∷◌, length, get_or, Some, None, Ok, Err, Option, Result, sym, refl, ap, ◌∙◌, subst, inr, arith}
+use Rattle.std.proofs.Common.{◌≡◌, ℕ, zero, suc, ◌+◌, ◌-◌, ◌<◌, ◌≤◌, List, ◌∷◌, length, get_or, Some, None, Ok, Err, Option, Result, sym, refl, ap, ◌∙◌, subst, inr, arith}
 use Rattle.slots.specs.declared.records.Unsound.{Unsound}
 use Rattle.slots.specs.declared.records.Link.{Link}
 use Rattle.slots.specs.declared.records.Digit.{Digit}
@@ -11,11 +11,10 @@ use Rattle.slots.specs.declared.records.Record.TheVariants.{Free}
 use Rattle.slots.specs.declared.records.Side.TheVariants.{Front}
 use Rattle.slots.specs.declared.records.Peel.{Peel}
 use Rattle.slots.specs.declared.records.Spine.{Spine}
-use Rattle.slots.specs.Ghost.{Twig, leaf, two, three, Arm, a1, a2, a3, Finger, nil, one, deep, same, occ_list, head_of, none, root, digit_of, part_of, tree_of, rows, levels, occ_twig, occ_arm, occ_part, occ, At, FitTwig, FitArm, FitPart, Fit, Chain, Off, Calm}
+use Rattle.slots.specs.Ghost.{Twig, leaf, two, three, Arm, a1, a2, a3, Finger, deep, same, occ_list, head_of, none, root, digit_of, part_of, tree_of, levels, occ_twig, occ_arm, occ_part, occ, At, FitTwig, FitPart, Fit, Chain}
 use Rattle.slots.specs.Sides.{peeled}
 use Rattle.slots.specs.Values.{below_in, spine_in}
 use Rattle.slots.specs.Post.{Given}
-use Rattle.slots.specs.Holds.{most}
 use Rattle.release.specs.Post.{reach, Back, PartReleased, TreeReleased, Released}
 use Rattle.slots.proofs.Frames.{calm_then, off_refl, off_then, off_more, Put, put, put_calm, frame_arm, frame_part, frame, frame_chain}
 use Rattle.slots.proofs.Shapes.{ok_err, ok_same, part_none, part_some, tree_empty, tree_single, tree_deep, at_level}

@@ -1,4 +1,6 @@
 // All slots of a tree go back to the chain.
+#![tactic(auto)]
+
 ghost use Rattle.release.specs.Post.{PartReleased, TreeReleased, Released};
 
 use slots::arena::{below_at, give_slot, spine_at};

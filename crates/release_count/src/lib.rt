@@ -1,4 +1,6 @@
 // All slots of a tree go back to the chain, and its leaves are counted.
+#![tactic(auto)]
+
 ghost use Rattle.std.specs.Prelude.{◌≡◌};
 ghost use Rattle.release_count.specs.Post.{counted, PartReleased, TreeReleased, Released};
 

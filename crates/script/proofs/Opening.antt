@@ -1,10 +1,10 @@
 -- The line that opens a text.
-use Rattle.std.proofs.Common.{◌≡◌, ℕ, ◌+◌, ◌≤◌, Bool, true, false, cond, leb, List, [], ◌∷◌, ◌++◌, length, IfOk, Some, None, Ok, Err, codes, Option, Result, sym, refl, ap, ◌∙◌, append_assoc, arith}
+use Rattle.std.proofs.Common.{◌≡◌, ℕ, ◌+◌, ◌≤◌, Bool, true, false, cond, leb, List, [], ◌∷◌, ◌++◌, length, IfOk, Some, None, Ok, Err, codes, Option, Result, refl, ap, ◌∙◌, append_assoc, arith}
 use Rattle.std.proofs.lemmas.Bool.{leb-true, le-leb}
 use Rattle.std.specs.Option.{option_map}
 use Rattle.plain.specs.Lists.{same}
 use Rattle.plain.specs.Machine.{Machine, Call, fresh}
-use Rattle.plain.specs.Script.{Request, State, parted, hexes, at_most, plainly, with_one, with_two, read_fields, request_of_line, lines_of, printed, answer_fields, opens}
+use Rattle.plain.specs.Script.{Request, parted, hexes, at_most, plainly, with_one, with_two, read_fields, request_of_line, lines_of, printed, answer_fields, opens}
 use Rattle.plain.specs.declared.answers.Answer.TheVariants.{Done}
 use Rattle.plain.specs.declared.calls.Request.TheVariants as request
 use Rattle.plain.specs.declared.faults.TextFault.{TextFault}

@@ -1,17 +1,16 @@
 -- The paths of the search. Assumes nothing.
 use Rattle.std.proofs.Common.{is_some, sym, refl, ap, ◌∙◌, subst, inl, inr, ⊎_elim, append_assoc, arith}
 use Rattle.measures.specs.Law.{weights, heaviest, Keeps}
-use Rattle.slots.specs.Ghost.{Twig, leaf, two, three, Arm, a1, Finger, nil, one, deep, none, root, digit_of, part_of, tree_of, rows_twig, rows_arm, rows_part, rows, levels, At, FitTwig, FitArm, Fit}
-use Rattle.slots.specs.Holds.{most}
-use Rattle.slots.specs.Values.{flat, mean, parts_in, spine_in}
+use Rattle.slots.specs.Ghost.{Twig, leaf, two, three, Arm, a1, Finger, nil, one, deep, none, root, digit_of, tree_of, rows_twig, rows_arm, rows_part, rows, levels, At, FitTwig, FitArm, Fit}
+use Rattle.slots.specs.Values.{mean, parts_in, spine_in}
 use Rattle.slots.proofs.Depth.{few_levels}
 use Rattle.slots.proofs.Ends.{parted}
 use Rattle.slots.proofs.Shapes.{ok_err, ok_same, tree_empty, tree_single, at_level}
-use Rattle.seek.specs.Words.{◌≡◌, Bool, true, false, List, [], ◌∷◌, ◌++◌, ◌⊎◌, ℕ, zero, suc, ◌+◌, ◌-◌, ◌≤◌, ◌<◌, length, get_or, Option, None, Some, Result, Ok, Err, Unsound, Digit, One, Tree, Empty, Single, Deep, Record, Leaf, Spine}
+use Rattle.seek.specs.Words.{◌≡◌, Bool, true, false, List, [], ◌++◌, ℕ, zero, suc, ◌+◌, ◌-◌, ◌≤◌, get_or, Option, None, Some, Result, Ok, Err, Unsound, Digit, One, Tree, Empty, Single, Deep, Record, Leaf, Spine}
 use Rattle.seek.specs.declared.digits.Cut.{Cut}
-use Rattle.seek.specs.Places.{upto, Past, Found, Lands, Finds}
+use Rattle.seek.specs.Places.{upto, Past, Found, Lands}
 use Rattle.seek.specs.Post.{cut_of, Passes, TreePassed, Struck, Picked, TwigSearched, DigitSearched, TreeSearched, Searched}
-use Rattle.seek.proofs.Moves.{true_false, was_none, was_some, on, light_mid, light_front, light_back, arm_some, past_none, yes_none, found_in, found_front, lands_then, some_turn, finds_all}
+use Rattle.seek.proofs.Moves.{was_none, was_some, light_mid, light_front, light_back, arm_some, past_none, yes_none, found_in, found_front, lands_then, some_turn, finds_all}
 
 module _ {R I V : Type 0} {means : List I → V} {says : V → Bool} {rs : List (Record R V)} where
   found_leaf : (items : R → List I) (w : List I) (u : Twig R V) (k : ℕ) {i : ℕ} {p : V} → k ≡ 0 → root u ≡ i → FitTwig (mean means items) rs u k → p ≡ means w → says (means (upto items w (rows_twig u))) ≡ true → Found means says items rs w (rows_twig u) p i

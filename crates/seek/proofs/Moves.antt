@@ -2,12 +2,12 @@
 use Rattle.std.proofs.Common.{is_some, sym, refl, ap, ◌∙◌, subst, inl, inr, ⊎_elim, append_assoc, arith, length-append}
 use Rattle.std.proofs.lemmas.List.{append-nil}
 use Rattle.measures.specs.Law.{weights, heaviest, Keeps}
-use Rattle.slots.specs.Ghost.{Twig, Arm, Finger, one, deep, rows_twig, rows_arm, rows}
+use Rattle.slots.specs.Ghost.{Twig, Arm, rows_twig, rows_arm}
 use Rattle.slots.specs.Values.{flat, wt}
 use Rattle.slots.proofs.Weights.{flat_append, weights_append, wt_append}
 use Rattle.slots.proofs.Counts.{twig_count, arm_count}
 use Rattle.slots.proofs.Shapes.{ok_same}
-use Rattle.seek.specs.Words.{◌≡◌, Bool, true, false, List, [], ◌∷◌, ◌++◌, ◌⊎◌, ℕ, suc, ◌+◌, ◌≤◌, length, Option, None, Some, Result, Ok, Unsound, Record}
+use Rattle.seek.specs.Words.{◌≡◌, Bool, true, false, List, [], ◌∷◌, ◌++◌, ℕ, suc, ◌+◌, ◌≤◌, length, Option, None, Some, Result, Ok, Unsound, Record}
 use Rattle.seek.specs.Places.{upto, NotYet, Past, Found, Turns, Lands, Never, Finds}
 
 pub true_false : {b : Bool} → b ≡ true → b ≡ false → ⊥

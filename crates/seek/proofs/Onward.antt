@@ -2,17 +2,16 @@
 use Rattle.std.proofs.Common.{is_some, sym, refl, ap, ◌∙◌, subst, inl, inr, ⊎_elim, append_assoc, arith}
 use Rattle.std.proofs.lemmas.List.{append-nil}
 use Rattle.measures.specs.Law.{weights, heaviest, Keeps}
-use Rattle.slots.specs.Ghost.{Twig, leaf, two, three, Arm, a1, Finger, nil, one, deep, none, root, digit_of, part_of, tree_of, rows_twig, rows_arm, rows_part, rows, levels, FitTwig, FitArm, FitPart, Fit}
-use Rattle.slots.specs.Holds.{most}
-use Rattle.slots.specs.Values.{flat, mean, parts_in, spine_in}
+use Rattle.slots.specs.Ghost.{Twig, leaf, two, three, Arm, a1, Finger, none, digit_of, part_of, tree_of, rows_twig, rows_arm, rows_part, rows, levels, FitTwig, FitArm, FitPart, Fit}
+use Rattle.slots.specs.Values.{mean, parts_in, spine_in}
 use Rattle.slots.proofs.Depth.{few_levels}
 use Rattle.slots.proofs.Shapes.{ok_err, ok_same, part_none, part_some, tree_empty, tree_single, at_level}
-use Rattle.seek.specs.Words.{◌≡◌, Bool, true, false, List, [], ◌∷◌, ◌++◌, ◌⊎◌, ℕ, zero, suc, ◌+◌, ◌-◌, ◌≤◌, ◌<◌, length, get_or, Option, None, Some, Result, Ok, Err, Unsound, Digit, One, Tree, Empty, Single, Deep, Record, Spine}
+use Rattle.seek.specs.Words.{◌≡◌, Bool, true, false, List, [], ◌∷◌, ◌++◌, ℕ, zero, suc, ◌+◌, ◌-◌, ◌≤◌, get_or, Option, None, Some, Result, Ok, Err, Unsound, Digit, One, Tree, Empty, Single, Deep, Record, Spine}
 use Rattle.seek.specs.declared.digits.Cut.{Cut}
-use Rattle.seek.specs.Places.{upto, NotYet, Past, Turns, Lands, Never, Finds}
+use Rattle.seek.specs.Places.{upto, NotYet, Past, Turns, Lands}
 use Rattle.seek.specs.Post.{cut_of, Passes, TreePassed, Struck, Picked, DigitSearched, TreeSearched}
 use Rattle.seek.specs.Beyond.{DigitThen, TreeThen, Beyond, AfterIn, TwigAfter, DigitAfter, TreeAfter, SoughtAfter}
-use Rattle.seek.proofs.Moves.{true_false, was_none, was_some, on, light_mid, light_front, light_back, light_rest, light_bare, arm_some, past_none, no_then, found_front, lands_then, some_turn, yes_none, turns_in, never, finds_all}
+use Rattle.seek.proofs.Moves.{was_none, was_some, on, light_mid, light_front, light_back, light_rest, light_bare, arm_some, past_none, no_then, found_front, lands_then, some_turn, yes_none, turns_in, never, finds_all}
 use Rattle.seek.proofs.Finding.{opened, no_level, struck_in}
 
 -- goes on where nothing was found

@@ -2,15 +2,15 @@
 use Rattle.std.proofs.Common.{is_some, sym, refl, ap, ◌∙◌, subst, inl, inr, ⊎_elim, append_assoc, arith}
 use Rattle.std.proofs.lemmas.List.{append-nil}
 use Rattle.measures.specs.Law.{weights, heaviest}
-use Rattle.slots.specs.Ghost.{Twig, Arm, a1, a2, a3, a4, Finger, none, root, digit_of, part_of, tree_of, rows_twig, rows_arm, rows_part, rows, FitTwig, FitArm, Fit}
+use Rattle.slots.specs.Ghost.{Twig, Arm, a1, a2, a3, a4, none, rows_twig, rows_arm, rows_part, rows, FitArm, Fit}
 use Rattle.slots.specs.Values.{flat, mean, value_in, JoinedOk}
 use Rattle.slots.proofs.Shapes.{ok_err, ok_same, arm_one, arm_two, arm_three, arm_four, tree_empty, tree_single, tree_deep}
 use Rattle.slots.proofs.Reading.{twig_value, deep_value}
-use Rattle.seek.specs.Words.{◌≡◌, Bool, true, false, List, [], ◌∷◌, ◌++◌, ◌⊎◌, ℕ, ◌+◌, ◌≤◌, get_or, Option, None, Some, Result, Ok, Err, Unsound, Digit, One, Two, Three, Four, Tree, Empty, Single, Deep, Record}
+use Rattle.seek.specs.Words.{◌≡◌, Bool, true, false, List, ◌++◌, ℕ, ◌≤◌, get_or, Option, None, Some, Result, Ok, Err, Unsound, Digit, One, Two, Three, Four, Tree, Empty, Single, Deep, Record}
 use Rattle.seek.specs.declared.digits.Cut.{Cut}
 use Rattle.seek.specs.Places.{upto, Past}
-use Rattle.seek.specs.Post.{cut_of, Slit, Passes, Passed, TreePassed, Struck, Tries, Tried, Picked}
-use Rattle.seek.proofs.Moves.{true_false, was_none, on, light_mid, past_none, past_then}
+use Rattle.seek.specs.Post.{cut_of, Slit, Passes, Passed, TreePassed, Tries, Tried, Picked}
+use Rattle.seek.proofs.Moves.{was_none, light_mid, past_none, past_then}
 
 -- what lies in the slot is joined on
 all_is : {R I V : Type 0} {weigh : I → ℕ} {means : List I → V} {p all : V} {c j : Result V Unsound} → JoinedOk weigh means (Ok p) c j → j ≡ Ok all

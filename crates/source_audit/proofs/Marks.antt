@@ -2,9 +2,9 @@
 use Rattle.std.proofs.Common.{sym, refl, ap, ◌∙◌, subst, ⊎_elim, arith, get_or-set_other, get_or-set_same}
 use Rattle.std.proofs.lemmas.List.{get_or_past}
 use Rattle.std.proofs.lemmas.Bool.{cases_lt}
-use Rattle.slots.specs.Ghost.{same, occ_list, At}
+use Rattle.slots.specs.Ghost.{same, At}
 use Rattle.slots.proofs.Frames.{same_self, same_cases}
-use Rattle.source_audit.specs.Words.{◌≡◌, List, [], ◌∷◌, ℕ, zero, suc, ◌+◌, ◌≤◌, ◌<◌, length, get_or, set, Result, Ok, Err, Unsound, Record}
+use Rattle.source_audit.specs.Words.{◌≡◌, List, [], ◌∷◌, ℕ, zero, suc, ◌+◌, ◌≤◌, ◌<◌, length, set, Result, Ok, Err, Unsound, Record}
 use Rattle.source_audit.specs.Visits.{mark, unmarked, Enter, Entered}
 
 same_apart : same 1 0 ≡ 0

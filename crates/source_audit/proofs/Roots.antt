@@ -1,13 +1,13 @@
 -- Visits of several trees. Assumes nothing.
-use Rattle.std.proofs.Common.{◌^◌, is_err, sym, refl, ap, ◌∙◌, subst, ⊎_elim, arith, length-append, pow_mono}
+use Rattle.std.proofs.Common.{◌^◌, is_err, sym, refl, ◌∙◌, subst, ⊎_elim, arith, length-append, pow_mono}
 use Rattle.std.proofs.lemmas.Bool.{cases_lt}
 use Rattle.slots.specs.Ghost.{Finger, tree_of, rows, levels, Fit}
 use Rattle.slots.proofs.Same.{tree_same}
 use Rattle.slots.proofs.Depth.{elements}
-use Rattle.source_audit.specs.Words.{◌≡◌, true, List, [], ◌∷◌, map, ℕ, ◌+◌, ◌≤◌, ◌<◌, length, Result, Ok, Err, Unsound, unsound, Tree, Record}
+use Rattle.source_audit.specs.Words.{◌≡◌, true, List, [], ◌∷◌, map, ℕ, ◌+◌, ◌≤◌, ◌<◌, length, Result, Ok, Unsound, Tree, Record}
 use Rattle.source_audit.specs.Checks.{Rules}
 use Rattle.source_audit.specs.Sound.{rows_trees, FitTrees}
-use Rattle.source_audit.specs.Visits.{deepest, Low, Moment, IsTree, AreTrees, tree_at, trees_at, Visited}
+use Rattle.source_audit.specs.Visits.{deepest, Low, Moment, AreTrees, tree_at, trees_at, Visited}
 use Rattle.source_audit.proofs.Checking.{stays_same}
 use Rattle.source_audit.proofs.Steps.{Sole, both, Made, seq, stop, seen_as}
 use Rattle.source_audit.proofs.Fingers.{sole_tree}

@@ -1,5 +1,5 @@
 -- Visits of parts make a visit of the whole. Assumes nothing.
-use Rattle.std.proofs.Common.{is_err, sym, refl, ap, ◌∙◌, subst, arith, length-append}
+use Rattle.std.proofs.Common.{is_err, sym, ap, ◌∙◌, subst, arith, length-append}
 use Rattle.std.specs.List.{AllByRecursion as All}
 use Rattle.std.proofs.ByRecursion.{All-append, All-weaker}
 use Rattle.measures.specs.Law.{heaviest}
@@ -7,9 +7,9 @@ use Rattle.slots.specs.Ghost.{same}
 use Rattle.slots.specs.Values.{mean, wt}
 use Rattle.slots.proofs.Shapes.{ok_same}
 use Rattle.slots.proofs.Weights.{wt_append}
-use Rattle.source_audit.specs.Words.{◌≡◌, true, List, [], ◌∷◌, ◌++◌, ℕ, ◌+◌, ◌≤◌, length, Result, Ok, Err, Unsound, Record}
-use Rattle.source_audit.specs.Checks.{Rules, Stays, Run}
-use Rattle.source_audit.specs.Visits.{mark, unmarked, Moment, moment, Confirmed, Confirms, Enter, Kind, mean_at, wt_at, Found, Nowhere, Cases, Visited}
+use Rattle.source_audit.specs.Words.{◌≡◌, true, List, [], ◌++◌, ℕ, ◌+◌, ◌≤◌, length, Result, Ok, Err, Unsound, Record}
+use Rattle.source_audit.specs.Checks.{Rules, Stays}
+use Rattle.source_audit.specs.Visits.{unmarked, Moment, moment, Confirmed, Confirms, Enter, Kind, mean_at, wt_at, Found, Nowhere, Cases, Visited}
 use Rattle.source_audit.specs.declared.budget.Budget.{Budget}
 use Rattle.source_audit.proofs.Marks.{enter_marks, enter_once, enter_falls}
 use Rattle.source_audit.proofs.Checking.{all_left, all_right, run_append, stays_same, stays_then}

@@ -2,7 +2,7 @@
 use Rattle.std.specs.Prelude.{◌≢◌}
 use Rattle.std.specs.List.{AllByRecursion as All}
 use Rattle.measures.specs.Law.{heaviest}
-use Rattle.source_audit.specs.Words.{◌≡◌, List, [], ◌∷◌, map, ℕ, zero, suc, ◌+◌, ◌≤◌, ◌<◌, length, get_or, set, Result, Ok, Err, Unsound, Link, Digit, Tree, Record}
+use Rattle.source_audit.specs.Words.{◌≡◌, List, [], ◌∷◌, map, ℕ, suc, ◌+◌, ◌≤◌, length, get_or, set, Result, Ok, Err, Unsound, Link, Digit, Tree, Record}
 use Rattle.slots.specs.Ghost.{Twig, Arm, Finger, occ_list, head_of, root, digit_of, tree_of, rows_twig, rows_arm, rows, levels, occ_twig, occ_arm, occ, At, FitTwig, FitArm, Fit, Chain}
 use Rattle.slots.specs.Values.{mean, wt}
 use Rattle.slots.specs.Theorems.{occ_trees}

@@ -2,18 +2,17 @@
 use Rattle.std.proofs.Common.{sym, refl, ap, ◌∙◌, subst, inl, inr, ⊎_elim, append_assoc, arith}
 use Rattle.std.proofs.lemmas.List.{append-nil}
 use Rattle.measures.specs.Law.{weights, heaviest, Keeps}
-use Rattle.split.specs.Words.{◌≡◌, Bool, true, false, List, [], ◌∷◌, ◌++◌, ◌⊎◌, ℕ, zero, suc, ◌+◌, ◌-◌, ◌≤◌, ◌<◌, length, get_or, Option, None, Some, Result, Ok, Err, Unsound, Link, To, Digit, Tree, Empty, Single, Deep, Record, Free, Leaf, Front, Back, Spine, Cut}
-use Rattle.slots.specs.Ghost.{Twig, leaf, two, three, Arm, Finger, nil, one, deep, same, occ_list, head_of, none, root, digit_of, part_of, tree_of, rows_twig, rows_arm, rows_part, rows, levels, occ_twig, occ_arm, occ_part, occ, At, FitTwig, FitArm, FitPart, Fit, Chain, Calm, Off}
-use Rattle.slots.specs.Holds.{Holds}
+use Rattle.split.specs.Words.{◌≡◌, Bool, true, false, List, [], ◌∷◌, ◌++◌, ◌⊎◌, ℕ, suc, ◌+◌, ◌-◌, ◌≤◌, ◌<◌, length, get_or, Option, None, Some, Result, Ok, Err, Unsound, Link, Tree, Empty, Single, Deep, Record, Free, Leaf, Front, Back, Spine, Cut}
+use Rattle.slots.specs.Ghost.{Twig, leaf, two, three, Arm, Finger, nil, one, deep, same, occ_list, head_of, none, root, digit_of, tree_of, rows_twig, rows_arm, rows_part, rows, levels, occ_twig, occ_arm, occ_part, occ, At, FitTwig, Calm, Off}
 use Rattle.slots.specs.Values.{flat, mean, wt, spine_in}
 use Rattle.slots.proofs.Depth.{few_levels}
 use Rattle.slots.proofs.Frames.{calm_then, off_refl, off_then, off_more, frame_twig, frame_arm, frame, frame_chain}
 use Rattle.slots.proofs.Reading.{twig_value}
 use Rattle.slots.proofs.Shapes.{ok_err, ok_same, tree_empty, tree_single, at_level}
 use Rattle.slots.proofs.Weights.{wt_append}
-use Rattle.tree.specs.Post.{Parts, Has}
+use Rattle.tree.specs.Post.{Has}
 use Rattle.seek.specs.Places.{upto, Past}
-use Rattle.seek.specs.Post.{cut_of, Passes, Passed, TreePassed, Struck, Tries, Picked}
+use Rattle.seek.specs.Post.{cut_of, Passes, Passed, TreePassed, Tries, Picked}
 use Rattle.seek.proofs.Finding.{no_level}
 use Rattle.seek.proofs.Moves.{on, light_mid, light_front, light_back, arm_some, past_none, past_then, some_turn, yes_none, never}
 use Rattle.split.specs.declared.halves.Halves.{Halves}

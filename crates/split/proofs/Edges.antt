@@ -1,8 +1,8 @@
 -- The paths of edge, rejoin and reopen. Assumes nothing.
-use Rattle.std.proofs.Common.{sym, refl, ap, ◌∙◌, subst, inl, inr, ⊎_elim, arith}
+use Rattle.std.proofs.Common.{sym, refl, ap, ◌∙◌, subst, ⊎_elim, arith}
 use Rattle.measures.specs.Law.{weights, heaviest}
-use Rattle.split.specs.Words.{◌≡◌, Bool, true, false, List, [], ◌∷◌, ◌++◌, ℕ, suc, ◌+◌, ◌-◌, ◌≤◌, ◌<◌, length, get_or, Option, None, Some, Result, Ok, Err, Unsound, Link, To, Digit, Tree, Record, Free, Side, Front, Back, Spine, Cut}
-use Rattle.slots.specs.Ghost.{Twig, Arm, Finger, same, occ_list, head_of, none, root, digit_of, part_of, tree_of, rows_twig, rows_arm, rows_part, rows, levels, occ_twig, occ_arm, occ_part, occ, At, FitTwig, FitArm, FitPart, Fit, Chain, Calm, Off}
+use Rattle.split.specs.Words.{◌≡◌, Bool, true, List, [], ◌∷◌, ℕ, suc, ◌+◌, ◌-◌, ◌≤◌, ◌<◌, length, Option, None, Some, Result, Ok, Err, Unsound, Link, Digit, Tree, Record, Side, Front, Back, Spine, Cut}
+use Rattle.slots.specs.Ghost.{Twig, Arm, Finger, same, occ_list, head_of, root, digit_of, part_of, tree_of, rows_twig, rows_arm, rows_part, rows, levels, occ_twig, occ_arm, occ_part, occ, FitTwig, FitArm, FitPart, Fit, Chain}
 use Rattle.slots.specs.Post.{Taken}
 use Rattle.slots.specs.Sides.{pick, flipped, ends}
 use Rattle.slots.specs.Values.{mean, wt}

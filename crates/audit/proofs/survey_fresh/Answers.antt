@@ -1,4 +1,3 @@
-use Rattle.std.proofs.Common.{sym}
 use Rattle.audit.proofs.Covers.{surveyed_fresh}
 use Rattle.audit.proofs.survey_fresh.Goals as goal
 

@@ -1,7 +1,3 @@
-use Rattle.std.proofs.Common.{◌≡◌, ◌+◌, ◌-◌, ◌*◌, ◌<◌, ap, arith, rules}
-use Rattle.slots.specs.Sides.{count}
-use Rattle.slots.specs.declared.records.Side.TheVariants.{Front}
-use Rattle.slots.proofs.Ends.{count_peeled, count_four}
 use Rattle.release_count.proofs.Releasing.{part_nothing, part_no_fuel, part_no_twig, part_no_gift, part_no_below, part_no_rest, part_freed}
 use Rattle.release_count.proofs.+release_part.Goals as goal
 

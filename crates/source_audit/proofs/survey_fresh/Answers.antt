@@ -1,4 +1,3 @@
-use Rattle.std.proofs.Common.{sym}
 use Rattle.source_audit.proofs.Covers.{surveyed_fresh}
 use Rattle.source_audit.proofs.survey_fresh.Goals as goal
 

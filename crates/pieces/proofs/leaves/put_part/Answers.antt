@@ -1,4 +1,3 @@
-use borrow.Author.Tests.{eqb-false}
 use Rattle.pieces.proofs.CutLeaves.{part_no_slot, part_put}
 use Rattle.pieces.proofs.leaves.put_part.Goals as goal
 
