@@ -1,4 +1,6 @@
 // Audits of concrete memories: sound ones, and one for each way of being unsound.
+#![tactic(auto)]
+
 use std::io;
 
 mod letters;

@@ -1,1 +1,2 @@
 // What stands against a bracket of a text.
+#![tactic(auto)]

@@ -1,4 +1,6 @@
 // The program: reads a script from standard input, and prints a line for each of its lines.
+#![tactic(auto)]
+
 use call_script::run_script;
 use std::io;
 use std::io::{Read, Write};

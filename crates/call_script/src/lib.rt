@@ -1,4 +1,6 @@
 // Scripts: from the bytes of all lines to the bytes of all that is printed.
+#![tactic(auto)]
+
 ghost use Rattle.std.specs.Prelude.{◌≡◌, ℕ, ◌+◌, ◌^◌, ◌<◌, ◌≤◌, ◌++◌, length, IfOk, Some, None, MatchResult, OnOk};
 ghost use Rattle.plain.specs.Machine.{fresh};
 ghost use Rattle.plain.specs.Script.{request_of_line, lines_of, printed, answer_fields, refused_at, line_step, lines_from, panel};

@@ -1,5 +1,7 @@
 // Lists of calls on a text: `run` opens a text and makes every call of a list on it. specs/Claim.antt
 // and specs/Runs.antt say what that comes to.
+#![tactic(auto)]
+
 ghost use Rattle.calls.specs.Claim.{moment};
 ghost use Rattle.calls.specs.Runs.{Claim};
 ghost use Rattle.calls.specs.Calls.{plain_calls};

@@ -1,4 +1,6 @@
 // A measure of one's own, made as docs/MEASURES.md says: the sum of the digits of a text.
+#![tactic(auto)]
+
 mod digits;
 
 use digits::{DigitSum, SumReached};

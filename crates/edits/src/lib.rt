@@ -1,4 +1,6 @@
 // Every edit of a text, as functions on a head and the lent slices.
+#![tactic(auto)]
+
 pub mod doors;
 pub mod edges;
 pub mod inserting;

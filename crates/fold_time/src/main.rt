@@ -1,4 +1,6 @@
 // How long it takes to measure 2,048 bytes, one after another: the least of 500 turns goes to standard error.
+#![tactic(auto)]
+
 use lexer::tokens::Tokens;
 use measures::longest_line::LongestLine;
 use measures::pair::Pair;

@@ -1,4 +1,6 @@
 // Every edit of a text, on its head: what is asked first, then the text's slice, then the marks'.
+#![tactic(auto)]
+
 mod closing;
 pub mod cutting;
 pub mod deleting;

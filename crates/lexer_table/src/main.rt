@@ -1,5 +1,7 @@
 // Every step of the lexer, to be compared with the table in `stdout`: for each state and each 16 bytes,
 // the next states, with a + where the byte begins a token.
+#![tactic(auto)]
+
 use lexer::reading::step;
 use std::io;
 

@@ -1,4 +1,6 @@
 // Whether the whole memory of a text is sound, answered for any contents.
+#![tactic(auto)]
+
 ghost use Rattle.memory_audit.specs.Inspected.{MemoryInspected};
 ghost use Rattle.memory_audit.specs.MemoryAudited.{MemoryAudited};
 

@@ -1,5 +1,7 @@
 // Every question at every offset of one text, twice: made by edits of many small pieces, and opened from its bytes in pieces of
 // 256. The checksums of the answers must be the same; beside them, the most bytes that one question read.
+#![tactic(auto)]
+
 use asking::{Asked, Slot, ask_all};
 use making::{Made, make};
 use measures::longest_line::LongestLine;

@@ -1,4 +1,6 @@
 // Scripts at the edges of what can be read: runs each file that is named, and prints what it gives below its name.
+#![tactic(auto)]
+
 use script::run_script;
 use std::io::Write;
 use std::{env, fs, io};

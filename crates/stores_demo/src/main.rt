@@ -1,4 +1,6 @@
 // The same reads and appends over every kind of store, at its borders, and joined twice deep.
+#![tactic(auto)]
+
 use std::io;
 use stores::Store;
 use stores::buffer::Buffer;

@@ -1,5 +1,7 @@
 // Texts over lent slots and a store. Only opening makes one, none can be copied, and a text that is held, with something
 // cut out of it, ends only by a paste or a discard. Of each slice that is lent only the first 8,316 slots are watched.
+#![tactic(auto)]
+
 use pieces::head::Head;
 use plain::faults::TextFault;
 

@@ -1,5 +1,7 @@
 // A fixed list of edits on 168 slots in each slice, over an original joined before a buffer; after each, what the text and its
 // memory have come to.
+#![tactic(auto)]
+
 use looking::Slot;
 use measures::longest_line::LongestLine;
 use pieces::head::MarkRecord;

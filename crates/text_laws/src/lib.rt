@@ -1,4 +1,6 @@
 // Theorems about sound memory: it spells one text, and a text with a clip and marks can be spelled.
+#![tactic(auto)]
+
 ghost use Rattle.text_laws.specs.Laws.{OneText, Holds};
 
 use head_edits::cutting::cut;

@@ -1,2 +1,4 @@
 // Questions on the tokens of a text, by its head. Slots are only read.
+#![tactic(auto)]
+
 pub mod scan;

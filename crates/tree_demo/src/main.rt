@@ -1,4 +1,6 @@
 // Trees of marks in lent slots: built leaf by leaf, taken apart at every place, put together again, drained and released.
+#![tactic(auto)]
+
 use building::{build, labels_in_order};
 use concat::joins::concat;
 use counting::{chain_length, levels, new_records, slots_in_use};
