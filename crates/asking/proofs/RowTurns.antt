@@ -1,6 +1,11 @@
 -- The paths of finding a row.
 use Rattle.std.proofs.Common.{sym, refl, ap, ◌∙◌, inl, inr, ⊎_elim, arith}
-use Rattle.seek.specs.Words.{◌≡◌, Bool, List, [], ℕ, get_or, Option, None, Some, Result, Ok, Err, Unsound, Tree, Record}
+use Rattle.std.specs.Prelude.{◌≡◌, Bool, List, [], ℕ, get_or}
+use Rattle.std.specs.declared.option.Option.{Option}
+use Rattle.std.specs.declared.option.Option.TheVariants.{None, Some}
+use Rattle.std.specs.declared.result.Result.{Result}
+use Rattle.std.specs.declared.result.Result.TheVariants.{Ok, Err}
+use Rattle.seek.specs.Words.{Unsound, Tree, Record}
 use Rattle.slots.specs.Ghost.{none}
 use Rattle.slots.specs.Values.{row_in}
 use Rattle.slots.proofs.Shapes.{ok_err, ok_same}

@@ -1,5 +1,10 @@
 -- The row at which a probe turns yes.
-use Rattle.seek.specs.Words.{◌≡◌, Bool, true, List, [], ◌∷◌, ◌++◌, ◌⊎◌, ℕ, ◌≤◌, length, Option, None, Some, Result, Ok, Unsound, Tree, Record}
+use Rattle.std.specs.Prelude.{◌≡◌, Bool, true, List, [], ◌∷◌, ◌++◌, ◌⊎◌, ℕ, ◌≤◌, length}
+use Rattle.std.specs.declared.option.Option.{Option}
+use Rattle.std.specs.declared.option.Option.TheVariants.{None, Some}
+use Rattle.std.specs.declared.result.Result.{Result}
+use Rattle.std.specs.declared.result.Result.TheVariants.{Ok}
+use Rattle.seek.specs.Words.{Unsound, Tree, Record}
 use Rattle.slots.specs.Ghost.{Finger, tree_of, rows, Fit}
 use Rattle.slots.specs.Holds.{most}
 use Rattle.slots.specs.Values.{mean}

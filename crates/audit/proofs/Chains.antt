@@ -3,7 +3,10 @@ use Rattle.std.proofs.Common.{is_err, sym, refl, ap, ◌∙◌, subst, arith}
 use Rattle.slots.specs.Ghost.{same, occ_list, none, head_of, At, Chain}
 use Rattle.slots.proofs.Frames.{same_self}
 use Rattle.slots.proofs.Shapes.{err_only}
-use Rattle.audit.specs.Words.{◌≡◌, true, List, [], ◌∷◌, ℕ, ◌+◌, ◌≤◌, get_or, Result, Ok, Err, Unsound, unsound, Link, End, To, Record, Free}
+use Rattle.std.specs.Prelude.{◌≡◌, true, List, [], ◌∷◌, ℕ, ◌+◌, ◌≤◌, get_or}
+use Rattle.std.specs.declared.result.Result.{Result}
+use Rattle.std.specs.declared.result.Result.TheVariants.{Ok, Err}
+use Rattle.audit.specs.Words.{Unsound, unsound, Link, End, To, Record, Free}
 use Rattle.audit.specs.Visits.{mark, Enter, Entered, NoChain, ChainVisited}
 use Rattle.audit.proofs.Marks.{enter_marks, enter_once, entered, not_entered}
 

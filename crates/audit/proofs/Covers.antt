@@ -12,7 +12,10 @@ use Rattle.slots.specs.Theorems.{occ_trees}
 use Rattle.slots.proofs.Counts.{named_one}
 use Rattle.slots.proofs.Same.{chain_same}
 use Rattle.slots.proofs.Shapes.{err_only}
-use Rattle.audit.specs.Words.{◌≡◌, Bool, true, false, List, [], ◌++◌, ℕ, ◌+◌, ◌-◌, ◌≤◌, ◌<◌, length, take, drop, replicate, Result, Ok, Err, Unsound, Link, Tree, Record}
+use Rattle.std.specs.Prelude.{◌≡◌, Bool, true, false, List, [], ◌++◌, ℕ, ◌+◌, ◌-◌, ◌≤◌, ◌<◌, length, take, drop, replicate}
+use Rattle.std.specs.declared.result.Result.{Result}
+use Rattle.std.specs.declared.result.Result.TheVariants.{Ok, Err}
+use Rattle.audit.specs.Words.{Unsound, Link, Tree, Record}
 use Rattle.audit.specs.Checks.{Rules}
 use Rattle.audit.specs.Visits.{mark, moment, ChainVisited, ChainFound, AreTrees, trees_at, Found, Cases, Visited}
 use Rattle.audit.specs.Post.{Zeroed, Checked, SoundTo, Audited}

@@ -7,7 +7,10 @@ use Rattle.slots.specs.Ghost.{same}
 use Rattle.slots.specs.Values.{mean, wt}
 use Rattle.slots.proofs.Shapes.{ok_same}
 use Rattle.slots.proofs.Weights.{wt_append}
-use Rattle.audit.specs.Words.{◌≡◌, true, List, [], ◌++◌, ℕ, ◌+◌, ◌≤◌, length, Result, Ok, Err, Unsound, Record}
+use Rattle.std.specs.Prelude.{◌≡◌, true, List, [], ◌++◌, ℕ, ◌+◌, ◌≤◌, length}
+use Rattle.std.specs.declared.result.Result.{Result}
+use Rattle.std.specs.declared.result.Result.TheVariants.{Ok, Err}
+use Rattle.audit.specs.Words.{Unsound, Record}
 use Rattle.audit.specs.Checks.{Rules, Stays}
 use Rattle.audit.specs.Visits.{unmarked, Moment, moment, Confirmed, Confirms, Enter, Kind, mean_at, wt_at, Found, Nowhere, Cases, Visited}
 use Rattle.audit.specs.declared.budget.Budget.{Budget}

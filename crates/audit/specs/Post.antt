@@ -1,5 +1,8 @@
 -- What the audit promises.
-use Rattle.audit.specs.Words.{◌≡◌, List, [], ◌++◌, ℕ, ◌≤◌, ◌<◌, length, drop, replicate, Result, Ok, Err, Link, Tree, Record}
+use Rattle.std.specs.Prelude.{◌≡◌, List, [], ◌++◌, ℕ, ◌≤◌, ◌<◌, length, drop, replicate}
+use Rattle.std.specs.declared.result.Result.{Result}
+use Rattle.std.specs.declared.result.Result.TheVariants.{Ok, Err}
+use Rattle.audit.specs.Words.{Link, Tree, Record}
 use Rattle.audit.specs.Checks.{Rules, Stays, Run}
 use Rattle.audit.specs.Sound.{Sound, rows_trees}
 use Rattle.audit.specs.declared.AuditFault.{AuditFault}

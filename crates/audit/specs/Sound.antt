@@ -1,7 +1,8 @@
 -- When slots are sound: trees and a chain of free slots share them, and each slot is named exactly once.
 use Rattle.std.specs.List.{AllByRecursion as All}
 use Rattle.measures.specs.Law.{heaviest}
-use Rattle.audit.specs.Words.{◌≡◌, List, [], ◌∷◌, ◌++◌, map, ℕ, ◌+◌, ◌≤◌, length, Link, Tree, Record}
+use Rattle.std.specs.Prelude.{◌≡◌, List, [], ◌∷◌, ◌++◌, map, ℕ, ◌+◌, ◌≤◌, length}
+use Rattle.audit.specs.Words.{Link, Tree, Record}
 use Rattle.slots.specs.Ghost.{Finger, named, occ_list, head_of, tree_of, rows, Fit, Chain}
 use Rattle.slots.specs.Values.{mean, wt}
 use Rattle.slots.specs.Theorems.{occ_trees}

@@ -1,7 +1,4 @@
 -- The types of the code, under one roof.
-pub use Rattle.std.specs.Prelude.{◌≡◌, Bool, true, false, List, [], ◌∷◌, ◌++◌, map, ℕ, zero, suc, ◌+◌, ◌-◌, ◌*◌, ◌≤◌, ◌<◌, length, get_or, set, take, drop, replicate}
-pub use Rattle.std.specs.declared.result.Result.{Result}
-pub use Rattle.std.specs.declared.result.Result.TheVariants.{Ok, Err}
 pub use Rattle.slots.specs.Words.{unsound}
 pub use Rattle.slots.specs.declared.records.Unsound.{Unsound}
 pub use Rattle.slots.specs.declared.records.Link.{Link}

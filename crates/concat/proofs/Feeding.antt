@@ -2,7 +2,12 @@
 use Rattle.std.proofs.Common.{sym, refl, ap, ◌∙◌, subst, inr, append_assoc, arith, length-append}
 use Rattle.std.proofs.lemmas.List.{append-nil}
 use Rattle.measures.specs.Law.{heaviest}
-use Rattle.tree.specs.Words.{◌≡◌, List, [], ◌∷◌, ◌++◌, ℕ, suc, ◌+◌, ◌≤◌, Option, None, Some, Result, Ok, Err, Unsound, Link, To, Digit, Two, Four, Record, Front, Back, Grown, Room, Over, Peel}
+use Rattle.std.specs.Prelude.{◌≡◌, List, [], ◌∷◌, ◌++◌, ℕ, suc, ◌+◌, ◌≤◌}
+use Rattle.std.specs.declared.option.Option.{Option}
+use Rattle.std.specs.declared.option.Option.TheVariants.{None, Some}
+use Rattle.std.specs.declared.result.Result.{Result}
+use Rattle.std.specs.declared.result.Result.TheVariants.{Ok, Err}
+use Rattle.tree.specs.Words.{Unsound, Link, To, Digit, Two, Four, Record, Front, Back, Grown, Room, Over, Peel}
 use Rattle.slots.specs.Ghost.{Twig, Arm, a1, a2, a3, a4, same, occ_list, head_of, root, digit_of, part_of, rows_twig, rows_arm, rows_part, size, size_part, occ_twig, occ_arm, occ_part, FitTwig, FitArm, FitPart, Chain, Off}
 use Rattle.slots.specs.Sides.{grown, peeled}
 use Rattle.slots.specs.Values.{mean, wt}

@@ -2,7 +2,12 @@
 use Rattle.std.proofs.Common.{sym, refl, ap, ◌∙◌, subst, append_assoc, arith, length-append}
 use Rattle.std.proofs.lemmas.List.{append-nil}
 use Rattle.measures.specs.Law.{heaviest}
-use Rattle.tree.specs.Words.{◌≡◌, List, [], ◌∷◌, ◌++◌, ℕ, suc, ◌+◌, ◌-◌, ◌≤◌, length, get_or, Option, None, Some, Result, Ok, Err, Unsound, Link, Digit, Tree, Empty, Single, Deep, Record, Free, Side, Front, Back, Spine}
+use Rattle.std.specs.Prelude.{◌≡◌, List, [], ◌∷◌, ◌++◌, ℕ, suc, ◌+◌, ◌-◌, ◌≤◌, length, get_or}
+use Rattle.std.specs.declared.option.Option.{Option}
+use Rattle.std.specs.declared.option.Option.TheVariants.{None, Some}
+use Rattle.std.specs.declared.result.Result.{Result}
+use Rattle.std.specs.declared.result.Result.TheVariants.{Ok, Err}
+use Rattle.tree.specs.Words.{Unsound, Link, Digit, Tree, Empty, Single, Deep, Record, Free, Side, Front, Back, Spine}
 use Rattle.slots.specs.Ghost.{Arm, Finger, nil, deep, occ_list, head_of, none, digit_of, part_of, tree_of, rows_twig, rows_arm, rows_part, rows, occ_arm, occ_part, occ, At, FitPart, Fit, Chain, Off}
 use Rattle.slots.specs.Sides.{pick}
 use Rattle.slots.specs.Holds.{most, spare, Beside}

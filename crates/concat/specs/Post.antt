@@ -1,5 +1,10 @@
 -- What joining trees promises.
-use Rattle.tree.specs.Words.{◌≡◌, List, ◌++◌, ℕ, zero, suc, ◌+◌, ◌*◌, ◌≤◌, length, get_or, Option, None, Some, Result, Ok, Err, Unsound, unsound, Link, Digit, One, Tree, Empty, Record, Side, Back, Grown, Room, Over}
+use Rattle.std.specs.Prelude.{◌≡◌, List, ◌++◌, ℕ, zero, suc, ◌+◌, ◌*◌, ◌≤◌, length, get_or}
+use Rattle.std.specs.declared.option.Option.{Option}
+use Rattle.std.specs.declared.option.Option.TheVariants.{None, Some}
+use Rattle.std.specs.declared.result.Result.{Result}
+use Rattle.std.specs.declared.result.Result.TheVariants.{Ok, Err}
+use Rattle.tree.specs.Words.{Unsound, unsound, Link, Digit, One, Tree, Empty, Record, Side, Back, Grown, Room, Over}
 use Rattle.slots.specs.Ghost.{Twig, Arm, a1, Finger, nil, occ_list, head_of, none, root, digit_of, part_of, tree_of, rows_twig, rows_arm, rows_part, rows, levels, size, size_part, occ_twig, occ_arm, occ_part, occ, FitTwig, FitArm, FitPart, Fit, Chain, Off, Calm}
 use Rattle.slots.specs.Sides.{pick, ends, grown}
 use Rattle.slots.specs.Holds.{Beside}

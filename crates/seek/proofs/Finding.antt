@@ -6,7 +6,12 @@ use Rattle.slots.specs.Values.{mean, parts_in, spine_in}
 use Rattle.slots.proofs.Depth.{few_levels}
 use Rattle.slots.proofs.Ends.{parted}
 use Rattle.slots.proofs.Shapes.{ok_err, ok_same, tree_empty, tree_single, at_level}
-use Rattle.seek.specs.Words.{◌≡◌, Bool, true, false, List, [], ◌++◌, ℕ, zero, suc, ◌+◌, ◌-◌, ◌≤◌, get_or, Option, None, Some, Result, Ok, Err, Unsound, Digit, One, Tree, Empty, Single, Deep, Record, Leaf, Spine}
+use Rattle.std.specs.Prelude.{◌≡◌, Bool, true, false, List, [], ◌++◌, ℕ, zero, suc, ◌+◌, ◌-◌, ◌≤◌, get_or}
+use Rattle.std.specs.declared.option.Option.{Option}
+use Rattle.std.specs.declared.option.Option.TheVariants.{None, Some}
+use Rattle.std.specs.declared.result.Result.{Result}
+use Rattle.std.specs.declared.result.Result.TheVariants.{Ok, Err}
+use Rattle.seek.specs.Words.{Unsound, Digit, One, Tree, Empty, Single, Deep, Record, Leaf, Spine}
 use Rattle.seek.specs.declared.digits.Cut.{Cut}
 use Rattle.seek.specs.Places.{upto, Past, Found, Lands}
 use Rattle.seek.specs.Post.{cut_of, Passes, TreePassed, Struck, Picked, TwigSearched, DigitSearched, TreeSearched, Searched}

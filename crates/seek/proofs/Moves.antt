@@ -7,7 +7,12 @@ use Rattle.slots.specs.Values.{flat, wt}
 use Rattle.slots.proofs.Weights.{flat_append, weights_append, wt_append}
 use Rattle.slots.proofs.Counts.{twig_count, arm_count}
 use Rattle.slots.proofs.Shapes.{ok_same}
-use Rattle.seek.specs.Words.{◌≡◌, Bool, true, false, List, [], ◌∷◌, ◌++◌, ℕ, suc, ◌+◌, ◌≤◌, length, Option, None, Some, Result, Ok, Unsound, Record}
+use Rattle.std.specs.Prelude.{◌≡◌, Bool, true, false, List, [], ◌∷◌, ◌++◌, ℕ, suc, ◌+◌, ◌≤◌, length}
+use Rattle.std.specs.declared.option.Option.{Option}
+use Rattle.std.specs.declared.option.Option.TheVariants.{None, Some}
+use Rattle.std.specs.declared.result.Result.{Result}
+use Rattle.std.specs.declared.result.Result.TheVariants.{Ok}
+use Rattle.seek.specs.Words.{Unsound, Record}
 use Rattle.seek.specs.Places.{upto, NotYet, Past, Found, Turns, Lands, Never, Finds}
 
 pub true_false : {b : Bool} → b ≡ true → b ≡ false → ⊥

@@ -6,7 +6,12 @@ use Rattle.slots.specs.Ghost.{Twig, leaf, two, three, Arm, a1, Finger, none, dig
 use Rattle.slots.specs.Values.{mean, parts_in, spine_in}
 use Rattle.slots.proofs.Depth.{few_levels}
 use Rattle.slots.proofs.Shapes.{ok_err, ok_same, part_none, part_some, tree_empty, tree_single, at_level}
-use Rattle.seek.specs.Words.{◌≡◌, Bool, true, false, List, [], ◌∷◌, ◌++◌, ℕ, zero, suc, ◌+◌, ◌-◌, ◌≤◌, get_or, Option, None, Some, Result, Ok, Err, Unsound, Digit, One, Tree, Empty, Single, Deep, Record, Spine}
+use Rattle.std.specs.Prelude.{◌≡◌, Bool, true, false, List, [], ◌∷◌, ◌++◌, ℕ, zero, suc, ◌+◌, ◌-◌, ◌≤◌, get_or}
+use Rattle.std.specs.declared.option.Option.{Option}
+use Rattle.std.specs.declared.option.Option.TheVariants.{None, Some}
+use Rattle.std.specs.declared.result.Result.{Result}
+use Rattle.std.specs.declared.result.Result.TheVariants.{Ok, Err}
+use Rattle.seek.specs.Words.{Unsound, Digit, One, Tree, Empty, Single, Deep, Record, Spine}
 use Rattle.seek.specs.declared.digits.Cut.{Cut}
 use Rattle.seek.specs.Places.{upto, NotYet, Past, Turns, Lands}
 use Rattle.seek.specs.Post.{cut_of, Passes, TreePassed, Struck, Picked, DigitSearched, TreeSearched}

@@ -6,7 +6,12 @@ use Rattle.slots.specs.Ghost.{Twig, Arm, a1, a2, a3, a4, none, rows_twig, rows_a
 use Rattle.slots.specs.Values.{flat, mean, value_in, JoinedOk}
 use Rattle.slots.proofs.Shapes.{ok_err, ok_same, arm_one, arm_two, arm_three, arm_four, tree_empty, tree_single, tree_deep}
 use Rattle.slots.proofs.Reading.{twig_value, deep_value}
-use Rattle.seek.specs.Words.{◌≡◌, Bool, true, false, List, ◌++◌, ℕ, ◌≤◌, get_or, Option, None, Some, Result, Ok, Err, Unsound, Digit, One, Two, Three, Four, Tree, Empty, Single, Deep, Record}
+use Rattle.std.specs.Prelude.{◌≡◌, Bool, true, false, List, ◌++◌, ℕ, ◌≤◌, get_or}
+use Rattle.std.specs.declared.option.Option.{Option}
+use Rattle.std.specs.declared.option.Option.TheVariants.{None, Some}
+use Rattle.std.specs.declared.result.Result.{Result}
+use Rattle.std.specs.declared.result.Result.TheVariants.{Ok, Err}
+use Rattle.seek.specs.Words.{Unsound, Digit, One, Two, Three, Four, Tree, Empty, Single, Deep, Record}
 use Rattle.seek.specs.declared.digits.Cut.{Cut}
 use Rattle.seek.specs.Places.{upto, Past}
 use Rattle.seek.specs.Post.{cut_of, Slit, Passes, Passed, TreePassed, Tries, Tried, Picked}

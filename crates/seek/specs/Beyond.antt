@@ -1,5 +1,10 @@
 -- What the searches after an element promise.
-use Rattle.seek.specs.Words.{◌≡◌, Bool, true, List, [], ◌++◌, ◌⊎◌, ℕ, ◌+◌, ◌≤◌, length, Option, None, Result, Ok, Unsound, Digit, Tree, Record}
+use Rattle.std.specs.Prelude.{◌≡◌, Bool, true, List, [], ◌++◌, ◌⊎◌, ℕ, ◌+◌, ◌≤◌, length}
+use Rattle.std.specs.declared.option.Option.{Option}
+use Rattle.std.specs.declared.option.Option.TheVariants.{None}
+use Rattle.std.specs.declared.result.Result.{Result}
+use Rattle.std.specs.declared.result.Result.TheVariants.{Ok}
+use Rattle.seek.specs.Words.{Unsound, Digit, Tree, Record}
 use Rattle.slots.specs.Ghost.{Twig, Arm, Finger, root, digit_of, part_of, tree_of, rows_twig, rows_arm, rows_part, rows, levels, FitTwig, FitArm, FitPart, Fit}
 use Rattle.slots.specs.Holds.{most}
 use Rattle.slots.specs.Values.{mean}

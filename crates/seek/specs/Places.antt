@@ -1,5 +1,10 @@
 -- Where a probe turns yes among rows.
-use Rattle.seek.specs.Words.{◌≡◌, Bool, true, false, List, [], ◌∷◌, ◌++◌, ◌⊎◌, ℕ, Option, None, Some, Result, Ok, Unsound, Record, Leaf}
+use Rattle.std.specs.Prelude.{◌≡◌, Bool, true, false, List, [], ◌∷◌, ◌++◌, ◌⊎◌, ℕ}
+use Rattle.std.specs.declared.option.Option.{Option}
+use Rattle.std.specs.declared.option.Option.TheVariants.{None, Some}
+use Rattle.std.specs.declared.result.Result.{Result}
+use Rattle.std.specs.declared.result.Result.TheVariants.{Ok}
+use Rattle.seek.specs.Words.{Unsound, Record, Leaf}
 use Rattle.slots.specs.Ghost.{At}
 use Rattle.slots.specs.Values.{flat, mean}
 

@@ -1,5 +1,10 @@
 -- What the searches promise.
-use Rattle.seek.specs.Words.{◌≡◌, Bool, true, false, List, ◌++◌, ◌⊎◌, ℕ, ◌+◌, ◌≤◌, length, get_or, Option, None, Some, Result, Ok, Unsound, Digit, Tree, Record}
+use Rattle.std.specs.Prelude.{◌≡◌, Bool, true, false, List, ◌++◌, ◌⊎◌, ℕ, ◌+◌, ◌≤◌, length, get_or}
+use Rattle.std.specs.declared.option.Option.{Option}
+use Rattle.std.specs.declared.option.Option.TheVariants.{None, Some}
+use Rattle.std.specs.declared.result.Result.{Result}
+use Rattle.std.specs.declared.result.Result.TheVariants.{Ok}
+use Rattle.seek.specs.Words.{Unsound, Digit, Tree, Record}
 use Rattle.slots.specs.Ghost.{Twig, Arm, Finger, none, root, digit_of, part_of, tree_of, rows_twig, rows_arm, rows_part, rows, levels, occ_twig, occ_arm, occ_part, FitTwig, FitArm, FitPart, Fit}
 use Rattle.slots.specs.Values.{mean, value_in}
 use Rattle.slots.specs.Holds.{most}

@@ -1,5 +1,4 @@
 -- The types of the code below, under one roof.
-pub use Rattle.slots.specs.Words.{◌≡◌, Bool, true, false, cond, List, [], ◌∷◌, ◌++◌, ◌⊎◌, ℕ, zero, suc, ◌+◌, ◌-◌, ◌≤◌, ◌<◌, length, get_or, Option, None, Some, Result, Ok, Err}
 pub use Rattle.slots.specs.declared.records.Unsound.{Unsound}
 pub use Rattle.slots.specs.declared.records.Digit.{Digit}
 pub use Rattle.slots.specs.declared.records.Digit.TheVariants.{One, Two, Three, Four}

@@ -1,6 +1,8 @@
 -- How many slots stay free: slots in use are at most twice the elements. Assumes nothing.
 use Rattle.std.proofs.Common.{ltb, sym, refl, ap, subst, ⊎_elim, arith, length-append, lt-ltb}
-use Rattle.slots.specs.Words.{◌≡◌, Bool, true, false, cond, List, [], ◌∷◌, ◌++◌, ℕ, zero, suc, ◌+◌, ◌*◌, ◌≤◌, ◌<◌, length, Option, None, Some}
+use Rattle.std.specs.Prelude.{◌≡◌, Bool, true, false, cond, List, [], ◌∷◌, ◌++◌, ℕ, zero, suc, ◌+◌, ◌*◌, ◌≤◌, ◌<◌, length}
+use Rattle.std.specs.declared.option.Option.{Option}
+use Rattle.std.specs.declared.option.Option.TheVariants.{None, Some}
 use Rattle.slots.specs.Ghost.{Twig, leaf, two, three, Arm, a1, a2, a3, a4, Finger, nil, one, deep, same, named, occ_list, rows_twig, rows_arm, rows_part, rows, occ_twig, occ_arm, occ_part, occ}
 use Rattle.slots.specs.Theorems.{total, occ_trees, occ_twigs, count_trees, count_twigs, Economy}
 use Rattle.slots.proofs.Frames.{same_cases, same_self}

@@ -2,7 +2,8 @@
 use Rattle.std.proofs.Common.{◌^◌, ap, ⊎_elim, arith, length-append, pow_mono}
 use native.Mathlib.Nat.{two-pow-succ}
 use Rattle.std.proofs.lemmas.Bool.{cases_lt}
-use Rattle.slots.specs.Words.{◌≡◌, List, ◌++◌, ℕ, zero, suc, ◌+◌, ◌≤◌, ◌<◌, length, Record}
+use Rattle.std.specs.Prelude.{◌≡◌, List, ◌++◌, ℕ, zero, suc, ◌+◌, ◌≤◌, ◌<◌, length}
+use Rattle.slots.specs.Words.{Record}
 use Rattle.slots.specs.Ghost.{Twig, leaf, two, three, Arm, a1, a2, a3, a4, Finger, nil, one, deep, rows_twig, rows_arm, rows, levels, FitTwig, FitArm, Fit}
 use Rattle.slots.specs.Theorems.{Shallow}
 

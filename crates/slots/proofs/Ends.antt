@@ -1,7 +1,11 @@
 -- Digits and levels seen from one of their sides. Assumes nothing.
 use Rattle.std.proofs.Common.{sym, refl, ap, ◌∙◌, subst, append_assoc, arith}
 use Rattle.std.proofs.lemmas.List.{append-nil}
-use Rattle.slots.specs.Words.{◌≡◌, List, [], ℕ, suc, ◌+◌, ◌≤◌, ◌<◌, length, get_or, Option, None, Some, Ok, Digit, One, Two, Three, Four, Side, Front, Back, Grown, Room, Over, Peel, Record}
+use Rattle.std.specs.Prelude.{◌≡◌, List, [], ℕ, suc, ◌+◌, ◌≤◌, ◌<◌, length, get_or}
+use Rattle.std.specs.declared.option.Option.{Option}
+use Rattle.std.specs.declared.option.Option.TheVariants.{None, Some}
+use Rattle.std.specs.declared.result.Result.TheVariants.{Ok}
+use Rattle.slots.specs.Words.{Digit, One, Two, Three, Four, Side, Front, Back, Grown, Room, Over, Peel, Record}
 use Rattle.slots.specs.Ghost.{Twig, leaf, two, three, Arm, a1, a2, a3, a4, Finger, deep, same, none, root, digit_of, part_of, rows_twig, rows_arm, rows_part, rows, size, size_part, occ_twig, occ_arm, occ_part, At, FitTwig, FitArm, FitPart}
 use Rattle.slots.specs.Sides.{pick, flipped, ends, grown, peeled, count}
 use Rattle.slots.specs.Values.{wt, node_of, parts_in}

@@ -1,7 +1,10 @@
 -- The chain of a fresh slice, and writes of one slot. Assumes nothing.
 use Rattle.std.proofs.Common.{is_err, sym, refl, ap, ◌∙◌, subst, ⊎_elim, arith}
 use Rattle.std.proofs.lemmas.List.{drop-set-lt}
-use Rattle.slots.specs.Words.{◌≡◌, true, List, ℕ, zero, suc, ◌+◌, ◌≤◌, ◌<◌, length, set, drop, Result, Ok, Err, Unsound, Link, End, To, Record, Free, Leaf}
+use Rattle.std.specs.Prelude.{◌≡◌, true, List, ℕ, zero, suc, ◌+◌, ◌≤◌, ◌<◌, length, set, drop}
+use Rattle.std.specs.declared.result.Result.{Result}
+use Rattle.std.specs.declared.result.Result.TheVariants.{Ok, Err}
+use Rattle.slots.specs.Words.{Unsound, Link, End, To, Record, Free, Leaf}
 use Rattle.slots.specs.Ghost.{same, occ_list, head_of, At, Chain}
 use Rattle.slots.specs.Post.{counting, watched, LaidOut, Taken, Wrote, Given, LeafPut}
 use Rattle.slots.proofs.Frames.{same_self, same_cases, put, frame_chain}

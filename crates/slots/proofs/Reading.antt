@@ -2,7 +2,12 @@
 use Rattle.std.proofs.Common.{sym, ap, ◌∙◌, arith}
 use Rattle.std.proofs.lemmas.List.{get_or_default}
 use Rattle.measures.specs.Law.{Joins, heaviest}
-use Rattle.slots.specs.Words.{◌≡◌, List, [], ◌++◌, ℕ, zero, suc, ◌≤◌, ◌<◌, length, get_or, Option, None, Some, Result, Ok, Unsound, Digit, One, Two, Three, Four, Tree, Single, Deep, Record}
+use Rattle.std.specs.Prelude.{◌≡◌, List, [], ◌++◌, ℕ, zero, suc, ◌≤◌, ◌<◌, length, get_or}
+use Rattle.std.specs.declared.option.Option.{Option}
+use Rattle.std.specs.declared.option.Option.TheVariants.{None, Some}
+use Rattle.std.specs.declared.result.Result.{Result}
+use Rattle.std.specs.declared.result.Result.TheVariants.{Ok}
+use Rattle.slots.specs.Words.{Unsound, Digit, One, Two, Three, Four, Tree, Single, Deep, Record}
 use Rattle.slots.specs.Ghost.{Twig, leaf, two, three, Arm, Finger, deep, none, root, rows_twig, rows_arm, rows_part, rows, FitTwig, FitArm, FitPart, Fit}
 use Rattle.slots.specs.Values.{mean, wt, JoinedOk, value_in}
 use Rattle.slots.specs.Post.{DigitValued, PartValued, TreeValued, LevelValued}

@@ -1,6 +1,7 @@
 -- Slots hold at most one ghost at a root. Assumes nothing.
 use Rattle.std.proofs.Common.{sym, refl, ap, ◌∙◌, arith}
-use Rattle.slots.specs.Words.{◌≡◌, List, [], ◌∷◌, ℕ, zero, suc, get_or, Record, Free, Leaf, Node2, Node3, Level}
+use Rattle.std.specs.Prelude.{◌≡◌, List, [], ◌∷◌, ℕ, zero, suc, get_or}
+use Rattle.slots.specs.Words.{Record, Free, Leaf, Node2, Node3, Level}
 use Rattle.slots.specs.Theorems.{Unique}
 use Rattle.slots.specs.Ghost.{Twig, leaf, two, three, Arm, a1, a2, a3, a4, Finger, nil, one, deep, none, root, digit_of, tree_of, At, FitTwig, FitArm, Fit, head_of, Chain}
 use Rattle.slots.proofs.Shapes.{arm_one, arm_two, arm_three, arm_four, tree_empty, tree_single}

@@ -1,6 +1,11 @@
 -- Which ghost a digit, a tree or a result stands for. Assumes nothing.
 use Rattle.std.proofs.Common.{is_err, sym, refl, ap, ◌∙◌, subst, arith}
-use Rattle.slots.specs.Words.{◌≡◌, true, List, ℕ, get_or, Option, None, Some, Result, Ok, Err, Unsound, unsound, Digit, One, Two, Three, Four, Empty, Single, Deep, Spine, Record}
+use Rattle.std.specs.Prelude.{◌≡◌, true, List, ℕ, get_or}
+use Rattle.std.specs.declared.option.Option.{Option}
+use Rattle.std.specs.declared.option.Option.TheVariants.{None, Some}
+use Rattle.std.specs.declared.result.Result.{Result}
+use Rattle.std.specs.declared.result.Result.TheVariants.{Ok, Err}
+use Rattle.slots.specs.Words.{Unsound, unsound, Digit, One, Two, Three, Four, Empty, Single, Deep, Spine, Record}
 use Rattle.slots.specs.Ghost.{Twig, Arm, a1, a2, a3, a4, Finger, nil, one, deep, none, root, digit_of, part_of, tree_of, Fit}
 use Rattle.slots.specs.Values.{spine_in}
 

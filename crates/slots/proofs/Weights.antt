@@ -1,7 +1,10 @@
 -- The weights and values of rows. Assumes nothing.
 use Rattle.std.proofs.Common.{sym, refl, ap, ◌∙◌, subst, append_assoc, arith}
 use Rattle.measures.specs.Law.{weights, heaviest}
-use Rattle.slots.specs.Words.{◌≡◌, List, [], ◌∷◌, ◌++◌, ℕ, ◌+◌, ◌≤◌, Result, Ok, Unsound, Side, Front, Back}
+use Rattle.std.specs.Prelude.{◌≡◌, List, [], ◌∷◌, ◌++◌, ℕ, ◌+◌, ◌≤◌}
+use Rattle.std.specs.declared.result.Result.{Result}
+use Rattle.std.specs.declared.result.Result.TheVariants.{Ok}
+use Rattle.slots.specs.Words.{Unsound, Side, Front, Back}
 use Rattle.slots.specs.Sides.{ends}
 use Rattle.slots.specs.Values.{flat, mean, wt, JoinedOk}
 

@@ -1,6 +1,8 @@
 -- The trees that slots may hold, and when they hold them.
-use Rattle.slots.specs.Words.{◌≡◌, Bool, true, false, cond, List, [], ◌∷◌, ◌++◌, ◌⊎◌, ℕ, zero, suc, ◌+◌, ◌<◌, length, get_or, Option, None, Some, Link, End, To, Digit, One, Two, Three, Four, Tree, Empty, Single, Deep, Record, Free, Leaf, Node2, Node3, Level}
-use Rattle.std.specs.Prelude.{◌==◌, nat_lt}
+use Rattle.std.specs.Prelude.{◌≡◌, Bool, true, false, cond, List, [], ◌∷◌, ◌++◌, ◌⊎◌, ℕ, zero, suc, ◌+◌, ◌<◌, length, get_or, ◌==◌, nat_lt}
+use Rattle.std.specs.declared.option.Option.{Option}
+use Rattle.std.specs.declared.option.Option.TheVariants.{None, Some}
+use Rattle.slots.specs.Words.{Link, End, To, Digit, One, Two, Three, Four, Tree, Empty, Single, Deep, Record, Free, Leaf, Node2, Node3, Level}
 
 -- a leaf or a node: its slot, its value, and the row or the twigs below it
 pub data Twig (R V : Type 0) : Type 0 where

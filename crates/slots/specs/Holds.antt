@@ -1,5 +1,7 @@
 -- A tree, or two, in slots beside a chain of free ones: what calls on trees start from.
-use Rattle.slots.specs.Words.{◌≡◌, List, ◌++◌, ℕ, ◌+◌, ◌≤◌, length, Option, Link, Digit, Tree, Record}
+use Rattle.std.specs.Prelude.{◌≡◌, List, ◌++◌, ℕ, ◌+◌, ◌≤◌, length}
+use Rattle.std.specs.declared.option.Option.{Option}
+use Rattle.slots.specs.Words.{Link, Digit, Tree, Record}
 use Rattle.slots.specs.Ghost.{Arm, Finger, occ_list, head_of, part_of, tree_of, rows_part, rows, occ_part, occ, FitPart, Fit, Chain}
 use Rattle.slots.specs.Values.{mean, wt}
 use Rattle.measures.specs.Law.{heaviest}

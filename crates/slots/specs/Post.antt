@@ -1,5 +1,9 @@
 -- What the calls of this crate promise.
-use Rattle.slots.specs.Words.{◌≡◌, List, [], ◌∷◌, ◌++◌, ℕ, zero, suc, ◌+◌, ◌≤◌, ◌<◌, min, length, set, drop, Option, Result, Ok, Err, Unsound, unsound, Link, End, To, Digit, Tree, Record, Free, Leaf}
+use Rattle.std.specs.Prelude.{◌≡◌, List, [], ◌∷◌, ◌++◌, ℕ, zero, suc, ◌+◌, ◌≤◌, ◌<◌, min, length, set, drop}
+use Rattle.std.specs.declared.option.Option.{Option}
+use Rattle.std.specs.declared.result.Result.{Result}
+use Rattle.std.specs.declared.result.Result.TheVariants.{Ok, Err}
+use Rattle.slots.specs.Words.{Unsound, unsound, Link, End, To, Digit, Tree, Record, Free, Leaf}
 use Rattle.slots.specs.Ghost.{Arm, Finger, head_of, digit_of, part_of, tree_of, rows_arm, rows_part, rows, FitArm, FitPart, Fit, Chain}
 use Rattle.slots.specs.Values.{mean, wt}
 use Rattle.measures.specs.Law.{heaviest}

@@ -1,5 +1,8 @@
 -- Both ends of a tree by one definition.
-use Rattle.slots.specs.Words.{List, ◌++◌, ℕ, Option, None, Some, Digit, One, Two, Three, Four, Side, Front, Back, Grown, Room, Over, Peel}
+use Rattle.std.specs.Prelude.{List, ◌++◌, ℕ}
+use Rattle.std.specs.declared.option.Option.{Option}
+use Rattle.std.specs.declared.option.Option.TheVariants.{None, Some}
+use Rattle.slots.specs.Words.{Digit, One, Two, Three, Four, Side, Front, Back, Grown, Room, Over, Peel}
 
 -- the first of the two on the front, the second on the back
 abbrev pub pick : {A : Type 0} → Side → A → A → A

@@ -1,6 +1,6 @@
 -- Laws of sound memory.
-use Rattle.slots.specs.Words.{◌≡◌, List, [], ◌∷◌, ℕ, zero, suc, ◌+◌, ◌*◌, ◌≤◌, length, Record}
-use Rattle.std.specs.Prelude.{◌^◌}
+use Rattle.std.specs.Prelude.{◌≡◌, List, [], ◌∷◌, ℕ, zero, suc, ◌+◌, ◌*◌, ◌≤◌, length, ◌^◌}
+use Rattle.slots.specs.Words.{Record}
 use Rattle.slots.specs.Ghost.{Twig, Finger, head_of, tree_of, rows_twig, rows, levels, occ_twig, occ, Fit, Chain}
 
 -- how often the first w slots are counted by τ

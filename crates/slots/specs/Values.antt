@@ -1,5 +1,10 @@
 -- What rows mean and weigh, and what is read from a record.
-use Rattle.slots.specs.Words.{◌≡◌, List, [], ◌∷◌, ◌++◌, ℕ, ◌≤◌, Option, None, Some, Result, Ok, Err, Unsound, unsound, Digit, One, Two, Three, Four, Record, Free, Leaf, Node2, Node3, Level, Spine}
+use Rattle.std.specs.Prelude.{◌≡◌, List, [], ◌∷◌, ◌++◌, ℕ, ◌≤◌}
+use Rattle.std.specs.declared.option.Option.{Option}
+use Rattle.std.specs.declared.option.Option.TheVariants.{None, Some}
+use Rattle.std.specs.declared.result.Result.{Result}
+use Rattle.std.specs.declared.result.Result.TheVariants.{Ok, Err}
+use Rattle.slots.specs.Words.{Unsound, unsound, Digit, One, Two, Three, Four, Record, Free, Leaf, Node2, Node3, Level, Spine}
 use Rattle.measures.specs.Law.{weights, heaviest}
 
 -- the items that rows stand for

@@ -3,7 +3,7 @@ use Rattle.std.proofs.Common.{refl, ◌∙◌, subst}
 use Rattle.std.specs.List.{AllByRecursion as All}
 use Rattle.std.proofs.lemmas.List.{take_at, drop_at}
 use Rattle.std.proofs.ByRecursion.{All-take, All-drop}
-use Rattle.source_audit.specs.Words.{List, [], ◌∷◌, ◌++◌, length}
+use Rattle.std.specs.Prelude.{List, [], ◌∷◌, ◌++◌, length}
 use Rattle.source_audit.specs.Checks.{Stays, Run}
 
 module _ {R : Type 0} (g : R → Type 0) (xs ys : List R) (p : All g (xs ++ ys)) where

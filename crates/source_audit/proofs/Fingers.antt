@@ -6,7 +6,10 @@ use Rattle.slots.specs.Post.{LevelValued}
 use Rattle.slots.proofs.Frames.{same_self}
 use Rattle.slots.proofs.Shapes.{tree_single}
 use Rattle.slots.proofs.Same.{at_same, tree_same}
-use Rattle.source_audit.specs.Words.{◌≡◌, true, List, [], ℕ, suc, ◌+◌, ◌≤◌, ◌<◌, Result, Ok, Err, Unsound, Digit, Tree, Empty, Single, Deep, Record, Level}
+use Rattle.std.specs.Prelude.{◌≡◌, true, List, [], ℕ, suc, ◌+◌, ◌≤◌, ◌<◌}
+use Rattle.std.specs.declared.result.Result.{Result}
+use Rattle.std.specs.declared.result.Result.TheVariants.{Ok, Err}
+use Rattle.source_audit.specs.Words.{Unsound, Digit, Tree, Empty, Single, Deep, Record, Level}
 use Rattle.source_audit.specs.Checks.{Rules}
 use Rattle.source_audit.specs.Visits.{unmarked, deepest, Moment, moment, Confirmed, Entered, Kind, twig_at, arm_at, tree_at, Visited}
 use Rattle.source_audit.specs.declared.budget.Budget.{Budget}

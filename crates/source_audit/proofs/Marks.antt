@@ -4,7 +4,10 @@ use Rattle.std.proofs.lemmas.List.{get_or_past}
 use Rattle.std.proofs.lemmas.Bool.{cases_lt}
 use Rattle.slots.specs.Ghost.{same, At}
 use Rattle.slots.proofs.Frames.{same_self, same_cases}
-use Rattle.source_audit.specs.Words.{◌≡◌, List, [], ◌∷◌, ℕ, zero, suc, ◌+◌, ◌≤◌, ◌<◌, length, set, Result, Ok, Err, Unsound, Record}
+use Rattle.std.specs.Prelude.{◌≡◌, List, [], ◌∷◌, ℕ, zero, suc, ◌+◌, ◌≤◌, ◌<◌, length, set}
+use Rattle.std.specs.declared.result.Result.{Result}
+use Rattle.std.specs.declared.result.Result.TheVariants.{Ok, Err}
+use Rattle.source_audit.specs.Words.{Unsound, Record}
 use Rattle.source_audit.specs.Visits.{mark, unmarked, Enter, Entered}
 
 same_apart : same 1 0 ≡ 0

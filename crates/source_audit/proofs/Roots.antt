@@ -4,7 +4,10 @@ use Rattle.std.proofs.lemmas.Bool.{cases_lt}
 use Rattle.slots.specs.Ghost.{Finger, tree_of, rows, levels, Fit}
 use Rattle.slots.proofs.Same.{tree_same}
 use Rattle.slots.proofs.Depth.{elements}
-use Rattle.source_audit.specs.Words.{◌≡◌, true, List, [], ◌∷◌, map, ℕ, ◌+◌, ◌≤◌, ◌<◌, length, Result, Ok, Unsound, Tree, Record}
+use Rattle.std.specs.Prelude.{◌≡◌, true, List, [], ◌∷◌, map, ℕ, ◌+◌, ◌≤◌, ◌<◌, length}
+use Rattle.std.specs.declared.result.Result.{Result}
+use Rattle.std.specs.declared.result.Result.TheVariants.{Ok}
+use Rattle.source_audit.specs.Words.{Unsound, Tree, Record}
 use Rattle.source_audit.specs.Checks.{Rules}
 use Rattle.source_audit.specs.Sound.{rows_trees, FitTrees}
 use Rattle.source_audit.specs.Visits.{deepest, Low, Moment, AreTrees, tree_at, trees_at, Visited}

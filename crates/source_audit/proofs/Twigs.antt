@@ -9,7 +9,10 @@ use Rattle.slots.specs.Post.{DigitValued}
 use Rattle.slots.proofs.Frames.{same_self}
 use Rattle.slots.proofs.Shapes.{arm_one, arm_two, arm_three, arm_four}
 use Rattle.slots.proofs.Same.{at_same, twig_same, arm_same}
-use Rattle.source_audit.specs.Words.{◌≡◌, true, List, [], ◌∷◌, ℕ, zero, suc, ◌+◌, ◌-◌, ◌≤◌, ◌<◌, length, Result, Ok, Err, Unsound, Digit, One, Two, Three, Four, Record, Free, Leaf, Node2, Node3, Level}
+use Rattle.std.specs.Prelude.{◌≡◌, true, List, [], ◌∷◌, ℕ, zero, suc, ◌+◌, ◌-◌, ◌≤◌, ◌<◌, length}
+use Rattle.std.specs.declared.result.Result.{Result}
+use Rattle.std.specs.declared.result.Result.TheVariants.{Ok, Err}
+use Rattle.source_audit.specs.Words.{Unsound, Digit, One, Two, Three, Four, Record, Free, Leaf, Node2, Node3, Level}
 use Rattle.source_audit.specs.Checks.{Judged, Passes, Rules, Stays}
 use Rattle.source_audit.specs.Visits.{unmarked, Moment, moment, Spent, Spends, Confirmed, Enter, Entered, twig_at, arm_at, node_at, Cases, Visited}
 use Rattle.source_audit.specs.declared.budget.Budget.{Budget}

@@ -1,7 +1,9 @@
 -- What a check of leaves promises.
-use Rattle.std.specs.Prelude.{◌≢◌}
+use Rattle.std.specs.Prelude.{◌≢◌, ◌≡◌, List, [], ◌∷◌, ℕ}
 use Rattle.measures.specs.Law.{weights}
-use Rattle.source_audit.specs.Words.{◌≡◌, List, [], ◌∷◌, ℕ, Result, Ok, Err, Unsound}
+use Rattle.std.specs.declared.result.Result.{Result}
+use Rattle.std.specs.declared.result.Result.TheVariants.{Ok, Err}
+use Rattle.source_audit.specs.Words.{Unsound}
 
 module _ {R I V : Type 0} (weigh : I → ℕ) (means : List I → V) (items : R → List I) (good : R → Type 0) where
   -- the row is good, v is the value of its items, and n is their weight

@@ -1,5 +1,8 @@
 -- What the functions below the audit promise of its verdict.
-use Rattle.source_audit.specs.Words.{◌≡◌, List, ℕ, length, replicate, Result, Ok, Err, Unsound, Link, Tree, Record}
+use Rattle.std.specs.Prelude.{◌≡◌, List, ℕ, length, replicate}
+use Rattle.std.specs.declared.result.Result.{Result}
+use Rattle.std.specs.declared.result.Result.TheVariants.{Ok, Err}
+use Rattle.source_audit.specs.Words.{Unsound, Link, Tree, Record}
 use Rattle.source_audit.specs.Checks.{Rules}
 use Rattle.source_audit.specs.Post.{Checked, SoundTo, Passed}
 

@@ -1,8 +1,10 @@
 -- What visiting slots says. A visited slot is marked, so that a second visit of it is refused.
-use Rattle.std.specs.Prelude.{◌≢◌}
+use Rattle.std.specs.Prelude.{◌≢◌, ◌≡◌, List, [], ◌∷◌, map, ℕ, suc, ◌+◌, ◌≤◌, length, get_or, set}
 use Rattle.std.specs.List.{AllByRecursion as All}
 use Rattle.measures.specs.Law.{heaviest}
-use Rattle.source_audit.specs.Words.{◌≡◌, List, [], ◌∷◌, map, ℕ, suc, ◌+◌, ◌≤◌, length, get_or, set, Result, Ok, Err, Unsound, Link, Digit, Tree, Record}
+use Rattle.std.specs.declared.result.Result.{Result}
+use Rattle.std.specs.declared.result.Result.TheVariants.{Ok, Err}
+use Rattle.source_audit.specs.Words.{Unsound, Link, Digit, Tree, Record}
 use Rattle.slots.specs.Ghost.{Twig, Arm, Finger, occ_list, head_of, root, digit_of, tree_of, rows_twig, rows_arm, rows, levels, occ_twig, occ_arm, occ, At, FitTwig, FitArm, Fit, Chain}
 use Rattle.slots.specs.Values.{mean, wt}
 use Rattle.slots.specs.Theorems.{occ_trees}

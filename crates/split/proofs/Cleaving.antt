@@ -2,7 +2,12 @@
 use Rattle.std.proofs.Common.{sym, refl, ap, ◌∙◌, subst, inl, inr, ⊎_elim, append_assoc, arith}
 use Rattle.std.proofs.lemmas.List.{append-nil}
 use Rattle.measures.specs.Law.{weights, heaviest, Keeps}
-use Rattle.split.specs.Words.{◌≡◌, Bool, true, false, List, [], ◌∷◌, ◌++◌, ◌⊎◌, ℕ, suc, ◌+◌, ◌-◌, ◌≤◌, ◌<◌, length, get_or, Option, None, Some, Result, Ok, Err, Unsound, Link, Tree, Empty, Single, Deep, Record, Free, Leaf, Front, Back, Spine, Cut}
+use Rattle.std.specs.Prelude.{◌≡◌, Bool, true, false, List, [], ◌∷◌, ◌++◌, ◌⊎◌, ℕ, suc, ◌+◌, ◌-◌, ◌≤◌, ◌<◌, length, get_or}
+use Rattle.std.specs.declared.option.Option.{Option}
+use Rattle.std.specs.declared.option.Option.TheVariants.{None, Some}
+use Rattle.std.specs.declared.result.Result.{Result}
+use Rattle.std.specs.declared.result.Result.TheVariants.{Ok, Err}
+use Rattle.split.specs.Words.{Unsound, Link, Tree, Empty, Single, Deep, Record, Free, Leaf, Front, Back, Spine, Cut}
 use Rattle.slots.specs.Ghost.{Twig, leaf, two, three, Arm, Finger, nil, one, deep, same, occ_list, head_of, none, root, digit_of, tree_of, rows_twig, rows_arm, rows_part, rows, levels, occ_twig, occ_arm, occ_part, occ, At, FitTwig, Calm, Off}
 use Rattle.slots.specs.Values.{flat, mean, wt, spine_in}
 use Rattle.slots.proofs.Depth.{few_levels}

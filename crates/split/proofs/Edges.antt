@@ -1,7 +1,12 @@
 -- The paths of edge, rejoin and reopen. Assumes nothing.
 use Rattle.std.proofs.Common.{sym, refl, ap, ◌∙◌, subst, ⊎_elim, arith}
 use Rattle.measures.specs.Law.{weights, heaviest}
-use Rattle.split.specs.Words.{◌≡◌, Bool, true, List, [], ◌∷◌, ℕ, suc, ◌+◌, ◌-◌, ◌≤◌, ◌<◌, length, Option, None, Some, Result, Ok, Err, Unsound, Link, Digit, Tree, Record, Side, Front, Back, Spine, Cut}
+use Rattle.std.specs.Prelude.{◌≡◌, Bool, true, List, [], ◌∷◌, ℕ, suc, ◌+◌, ◌-◌, ◌≤◌, ◌<◌, length}
+use Rattle.std.specs.declared.option.Option.{Option}
+use Rattle.std.specs.declared.option.Option.TheVariants.{None, Some}
+use Rattle.std.specs.declared.result.Result.{Result}
+use Rattle.std.specs.declared.result.Result.TheVariants.{Ok, Err}
+use Rattle.split.specs.Words.{Unsound, Link, Digit, Tree, Record, Side, Front, Back, Spine, Cut}
 use Rattle.slots.specs.Ghost.{Twig, Arm, Finger, same, occ_list, head_of, root, digit_of, part_of, tree_of, rows_twig, rows_arm, rows_part, rows, levels, occ_twig, occ_arm, occ_part, occ, FitTwig, FitArm, FitPart, Fit, Chain}
 use Rattle.slots.specs.Post.{Taken}
 use Rattle.slots.specs.Sides.{pick, flipped, ends}

@@ -1,5 +1,10 @@
 -- What the split promises.
-use Rattle.split.specs.Words.{◌≡◌, Bool, true, List, [], ◌∷◌, ◌++◌, ◌⊎◌, ℕ, suc, ◌+◌, ◌-◌, ◌≤◌, ◌<◌, length, get_or, Option, None, Some, Result, Ok, Unsound, Link, To, Tree, Record, Free, Leaf, Side, Spine, Cut}
+use Rattle.std.specs.Prelude.{◌≡◌, Bool, true, List, [], ◌∷◌, ◌++◌, ◌⊎◌, ℕ, suc, ◌+◌, ◌-◌, ◌≤◌, ◌<◌, length, get_or}
+use Rattle.std.specs.declared.option.Option.{Option}
+use Rattle.std.specs.declared.option.Option.TheVariants.{None, Some}
+use Rattle.std.specs.declared.result.Result.{Result}
+use Rattle.std.specs.declared.result.Result.TheVariants.{Ok}
+use Rattle.split.specs.Words.{Unsound, Link, To, Tree, Record, Free, Leaf, Side, Spine, Cut}
 use Rattle.slots.specs.Ghost.{Twig, Arm, Finger, same, occ_list, head_of, none, root, digit_of, part_of, tree_of, rows_twig, rows_arm, rows_part, rows, levels, occ_twig, occ_arm, occ_part, occ, At, FitTwig, FitArm, FitPart, Fit, Chain, Calm, Off}
 use Rattle.slots.specs.Holds.{Holds}
 use Rattle.slots.specs.Sides.{pick, ends}

@@ -1,9 +1,4 @@
 -- The words of slots and lists, under one roof.
-pub use Rattle.std.specs.Prelude.{◌≡◌, Bool, true, false, List, [], ◌∷◌, ◌++◌, ◌⊎◌, ℕ, zero, suc, ◌+◌, ◌-◌, ◌≤◌, ◌<◌, length, get_or}
-pub use Rattle.std.specs.declared.option.Option.{Option}
-pub use Rattle.std.specs.declared.option.Option.TheVariants.{None, Some}
-pub use Rattle.std.specs.declared.result.Result.{Result}
-pub use Rattle.std.specs.declared.result.Result.TheVariants.{Ok, Err}
 pub use Rattle.slots.specs.declared.records.Unsound.{Unsound}
 pub use Rattle.slots.specs.declared.records.Link.{Link}
 pub use Rattle.slots.specs.declared.records.Link.TheVariants.{To}

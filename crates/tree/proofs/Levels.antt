@@ -1,7 +1,10 @@
 -- Levels and nodes written into slots. Assumes nothing.
 use Rattle.std.proofs.Common.{sym, refl, ap, ◌∙◌, subst, append_assoc, arith}
 use Rattle.measures.specs.Law.{heaviest}
-use Rattle.tree.specs.Words.{◌≡◌, List, ◌∷◌, ◌++◌, ℕ, suc, ◌+◌, ◌≤◌, ◌<◌, length, get_or, set, Result, Ok, Err, Unsound, Link, To, Digit, Tree, Deep, Record, Free, Level, Side, Front, Back}
+use Rattle.std.specs.Prelude.{◌≡◌, List, ◌∷◌, ◌++◌, ℕ, suc, ◌+◌, ◌≤◌, ◌<◌, length, get_or, set}
+use Rattle.std.specs.declared.result.Result.{Result}
+use Rattle.std.specs.declared.result.Result.TheVariants.{Ok, Err}
+use Rattle.tree.specs.Words.{Unsound, Link, To, Digit, Tree, Deep, Record, Free, Level, Side, Front, Back}
 use Rattle.slots.specs.Ghost.{Twig, Arm, a1, a2, a3, a4, Finger, deep, same, occ_list, head_of, none, root, digit_of, tree_of, rows_twig, rows_arm, rows, occ_twig, occ_arm, occ, At, FitTwig, FitArm, Fit, Chain, Calm, Off}
 use Rattle.slots.specs.Sides.{pick, ends}
 use Rattle.slots.specs.Values.{mean, wt, JoinedOk, value_in, node_of}

@@ -1,6 +1,9 @@
 -- The paths of push. Assumes nothing.
 use Rattle.std.proofs.Common.{sym, refl, ap, ◌∙◌, subst, inl, inr, arith}
-use Rattle.tree.specs.Words.{◌≡◌, List, [], ◌∷◌, ℕ, suc, ◌+◌, ◌-◌, ◌≤◌, get_or, Result, Ok, Err, Unsound, Link, Digit, One, Tree, Empty, Single, Deep, Record, Side, Front, Back, Grown, Room, Over, Spine}
+use Rattle.std.specs.Prelude.{◌≡◌, List, [], ◌∷◌, ℕ, suc, ◌+◌, ◌-◌, ◌≤◌, get_or}
+use Rattle.std.specs.declared.result.Result.{Result}
+use Rattle.std.specs.declared.result.Result.TheVariants.{Ok, Err}
+use Rattle.tree.specs.Words.{Unsound, Link, Digit, One, Tree, Empty, Single, Deep, Record, Side, Front, Back, Grown, Room, Over, Spine}
 use Rattle.slots.specs.Ghost.{Twig, Arm, a1, a2, a3, a4, Finger, nil, one, deep, same, occ_list, none, root, digit_of, tree_of, rows_twig, rows_arm, rows, size, occ_arm, occ, Fit, Off}
 use Rattle.slots.specs.Sides.{pick, flipped, ends, grown}
 use Rattle.slots.specs.Values.{mean, wt, spine_in}

@@ -1,7 +1,12 @@
 -- The paths of settle, replant, plant, refill, deep and pop. Assumes nothing.
 use Rattle.std.proofs.Common.{sym, refl, ap, ◌∙◌, subst, inr, append_assoc, arith}
 use Rattle.measures.specs.Law.{heaviest}
-use Rattle.tree.specs.Words.{◌≡◌, List, [], ◌∷◌, ◌++◌, ℕ, suc, ◌+◌, ◌-◌, ◌≤◌, ◌<◌, length, get_or, Option, None, Some, Result, Ok, Err, Unsound, Link, Digit, One, Two, Three, Four, Tree, Empty, Single, Deep, Record, Free, Side, Front, Back, Peel, Spine}
+use Rattle.std.specs.Prelude.{◌≡◌, List, [], ◌∷◌, ◌++◌, ℕ, suc, ◌+◌, ◌-◌, ◌≤◌, ◌<◌, length, get_or}
+use Rattle.std.specs.declared.option.Option.{Option}
+use Rattle.std.specs.declared.option.Option.TheVariants.{None, Some}
+use Rattle.std.specs.declared.result.Result.{Result}
+use Rattle.std.specs.declared.result.Result.TheVariants.{Ok, Err}
+use Rattle.tree.specs.Words.{Unsound, Link, Digit, One, Two, Three, Four, Tree, Empty, Single, Deep, Record, Free, Side, Front, Back, Peel, Spine}
 use Rattle.slots.specs.Ghost.{Twig, Arm, a1, a2, a3, a4, Finger, nil, one, deep, same, occ_list, head_of, none, root, digit_of, tree_of, rows_twig, rows_arm, rows_part, rows, levels, Full, occ_twig, occ_arm, occ_part, occ, At, FitTwig, FitArm, FitPart, Fit, Chain, Calm, Off}
 use Rattle.slots.specs.Sides.{pick, flipped, ends, peeled}
 use Rattle.slots.specs.Values.{mean, wt, spine_in}

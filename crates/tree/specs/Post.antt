@@ -1,6 +1,11 @@
 -- What the calls on trees promise.
 use Rattle.tree.specs.declared.ends.Popped.{Popped}
-use Rattle.tree.specs.Words.{◌≡◌, List, [], ◌∷◌, ◌⊎◌, ℕ, suc, ◌+◌, ◌-◌, ◌≤◌, ◌<◌, length, get_or, set, Option, None, Some, Result, Ok, Unsound, Link, To, Digit, Tree, Empty, Deep, Record, Free, Level, Side}
+use Rattle.std.specs.Prelude.{◌≡◌, List, [], ◌∷◌, ◌⊎◌, ℕ, suc, ◌+◌, ◌-◌, ◌≤◌, ◌<◌, length, get_or, set}
+use Rattle.std.specs.declared.option.Option.{Option}
+use Rattle.std.specs.declared.option.Option.TheVariants.{None, Some}
+use Rattle.std.specs.declared.result.Result.{Result}
+use Rattle.std.specs.declared.result.Result.TheVariants.{Ok}
+use Rattle.tree.specs.Words.{Unsound, Link, To, Digit, Tree, Empty, Deep, Record, Free, Level, Side}
 use Rattle.slots.specs.Ghost.{Twig, Arm, a1, a2, a3, a4, Finger, nil, one, deep, same, occ_list, head_of, none, root, digit_of, part_of, tree_of, rows_twig, rows_arm, rows_part, rows, levels, Full, occ_twig, occ_arm, occ_part, occ, FitTwig, FitArm, FitPart, Fit, Chain, Off, Calm}
 use Rattle.slots.specs.Sides.{pick, ends}
 use Rattle.slots.specs.Values.{mean, wt, value_in, parts_in, node_of}

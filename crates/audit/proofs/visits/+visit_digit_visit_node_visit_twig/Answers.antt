@@ -1,5 +1,6 @@
 use Rattle.std.proofs.Common.{is_err, sym, refl, ap, ⊎_elim, arith}
-use Rattle.audit.specs.Words.{Ok, Err, unsound}
+use Rattle.std.specs.declared.result.Result.TheVariants.{Ok, Err}
+use Rattle.audit.specs.Words.{unsound}
 use Rattle.audit.specs.Visits.{twig_at}
 use Rattle.audit.proofs.Steps.{both, sole_both, seq, stop}
 use Rattle.audit.proofs.Twigs.{sole_twig, digit_one, digit_two, digit_three, digit_four, node_flat, node_visited, node_stopped, twig_shut, twig_not, leaf_judged, leaf_bad, twig_node}

@@ -1,5 +1,6 @@
 use Rattle.std.proofs.Common.{is_err, refl, ap}
-use Rattle.audit.specs.Words.{Err, unsound}
+use Rattle.std.specs.declared.result.Result.TheVariants.{Err}
+use Rattle.audit.specs.Words.{unsound}
 use Rattle.audit.specs.Visits.{arm_at, tree_at}
 use Rattle.audit.proofs.Steps.{sole_both, seq, stop}
 use Rattle.audit.proofs.Twigs.{sole_arm}

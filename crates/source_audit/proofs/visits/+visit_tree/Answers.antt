@@ -1,5 +1,6 @@
 use Rattle.std.proofs.Common.{is_err, refl, ap}
-use Rattle.source_audit.specs.Words.{Err, unsound}
+use Rattle.std.specs.declared.result.Result.TheVariants.{Err}
+use Rattle.source_audit.specs.Words.{unsound}
 use Rattle.source_audit.specs.Visits.{arm_at, tree_at}
 use Rattle.source_audit.proofs.Steps.{sole_both, seq, stop}
 use Rattle.source_audit.proofs.Twigs.{sole_arm}
