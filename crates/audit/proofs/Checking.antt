@@ -1,17 +1,17 @@
 -- Rows checked one list after another. Assumes nothing.
 use Rattle.std.proofs.Common.{refl, ◌∙◌, subst}
-use Rattle.std.specs.List.{AllByRecursion as All}
+use Rattle.std.specs.List.{AllByRecursion}
 use Rattle.std.proofs.lemmas.List.{take_at, drop_at}
 use Rattle.std.proofs.ByRecursion.{All-take, All-drop}
 use Rattle.std.specs.Prelude.{List, [], ◌∷◌, ◌++◌, length}
 use Rattle.audit.specs.Checks.{Stays, Run}
 
-module _ {R : Type 0} (g : R → Type 0) (xs ys : List R) (p : All g (xs ++ ys)) where
-  pub all_left : All g xs
-  all_left = subst (All g) (take_at xs ys (length xs) refl) (All-take g (length xs) (xs ++ ys) p)
+module _ {R : Type 0} (g : R → Type 0) (xs ys : List R) (p : AllByRecursion g (xs ++ ys)) where
+  pub all_left : AllByRecursion g xs
+  all_left = subst (AllByRecursion g) (take_at xs ys (length xs) refl) (All-take g (length xs) (xs ++ ys) p)
 
-  pub all_right : All g ys
-  all_right = subst (All g) (drop_at xs ys (length xs) refl) (All-drop g (length xs) (xs ++ ys) p)
+  pub all_right : AllByRecursion g ys
+  all_right = subst (AllByRecursion g) (drop_at xs ys (length xs) refl) (All-drop g (length xs) (xs ++ ys) p)
 
 pub run_append : {R S : Type 0} (checks : S → R → S → Type 0) (s s₁ s₂ : S) (xs ys : List R) → Run checks s xs s₁ → Run checks s₁ ys s₂ → Run checks s (xs ++ ys) s₂
 run_append checks s s₁ s₂ [] ys p q = subst (λ z. Run checks z ys s₂) p q

@@ -1,6 +1,6 @@
 -- Visits of parts make a visit of the whole. Assumes nothing.
 use Rattle.std.proofs.Common.{is_err, sym, ap, ◌∙◌, subst, arith, length-append}
-use Rattle.std.specs.List.{AllByRecursion as All}
+use Rattle.std.specs.List.{AllByRecursion}
 use Rattle.std.proofs.ByRecursion.{All-append, All-weaker}
 use Rattle.measures.specs.Law.{heaviest}
 use Rattle.slots.specs.Ghost.{same}
@@ -203,6 +203,6 @@ module _ {R I V S : Type 0} {w : Rules R I V S} where
     says = λ light u is gd few wts apart.
         let b = down (mean_at w m) u is in
         let same_text : L.text u ≡ K.text b.it = ap L.text b.eq ∙ texts (mean_at w m) b.it b.is in
-        vx.says light b.it b.is (subst (λ l. All (w.good m.leaves) l) same_text gd) (omega (arith, few, ap length same_text)) (omega (arith, wts, ap (wt_at w m) same_text))
+        vx.says light b.it b.is (subst (λ l. AllByRecursion (w.good m.leaves) l) same_text gd) (omega (arith, few, ap length same_text)) (omega (arith, wts, ap (wt_at w m) same_text))
         (λ j. omega (arith, apart j, names (mean_at w m) b.it b.is j, ap (λ z. L.names z j) b.eq));
   }

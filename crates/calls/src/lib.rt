@@ -17,9 +17,9 @@ use slots::arena::watched;
 use stores::Store;
 use text::Whole;
 
-mod asking;
 mod auditing;
 mod editing;
+mod inquiries;
 mod making;
 pub mod texts;
 

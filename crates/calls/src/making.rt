@@ -5,9 +5,9 @@ ghost use Rattle.calls.specs.Claim.{moment};
 ghost use Rattle.calls.specs.Steps.{Performs, Makes, Enough, SizeTold};
 ghost use Rattle.text.specs.Texts.{watched_of};
 
-use crate::asking::ask;
 use crate::auditing::audit;
 use crate::editing::edit;
+use crate::inquiries::ask;
 use crate::texts::{Reply, Text};
 use measures::Measure;
 use pieces::head::{MarkRecord, TextRecord};

@@ -1,6 +1,6 @@
 -- The slots of marks: sound to the audit exactly if they are a sound memory's. Assumes nothing.
 use Rattle.std.proofs.Common.{◌≡◌, ℕ, ◌+◌, ◌≤◌, true, List, [], ◌∷◌, length, is_err, Ok, Err, Result, sym, ap, ◌∙◌, subst, append-nil, arith}
-use Rattle.std.specs.List.{AllByRecursion as All}
+use Rattle.std.specs.List.{AllByRecursion}
 use Rattle.plain.specs.Machine.{limit}
 use Rattle.measures.specs.Law.{heaviest}
 use Rattle.measures.specs.MarkTotals.{gaps, totals_of_marks}
@@ -28,7 +28,7 @@ mark_rules = rules (λ m. m.gap + 1) totals_of_marks (λ _ row. itself row) (λ 
 abbrev mark_roots : Head → List Tree
 mark_roots h = h.marks ∷ []
 
-any_mark : (xs : List MarkRow) → All (λ _. Unit {0}) xs
+any_mark : (xs : List MarkRow) → AllByRecursion (λ _. Unit {0}) xs
 any_mark [] = tt
 any_mark (x ∷ xs) = (tt, any_mark xs)
 

@@ -1,6 +1,6 @@
 -- The slots of text and clip: sound to the audit exactly if they are a sound memory's. Assumes nothing.
 use Rattle.std.proofs.Common.{◌≡◌, ℕ, ◌+◌, ◌^◌, ◌<◌, ◌≤◌, true, List, [], ◌∷◌, ◌++◌, length, is_err, Ok, Err, Result, sym, ap, ◌∙◌, subst, ap₂, append-nil, arith, length-append}
-use Rattle.std.specs.List.{AllByRecursion as All}
+use Rattle.std.specs.List.{AllByRecursion}
 use Rattle.plain.specs.Machine.{limit}
 use Rattle.stores.specs.Stores.{summed}
 use Rattle.slots.specs.Ghost.{Finger, occ_list, named, rows}
@@ -30,11 +30,11 @@ module _ {A S : Type 0} (am : List ℕ → A) (bytes : S → List ℕ) (capacity
 abbrev text_roots : Head → List Tree
 text_roots h = h.text ∷ (h.clip ∷ [])
 
-every : (B : List ℕ) (xs : List PieceRow) → AllGood B xs → All (Good B) xs
+every : (B : List ℕ) (xs : List PieceRow) → AllGood B xs → AllByRecursion (Good B) xs
 every B [] g = tt
 every B (x ∷ xs) g = (g.0, every B xs g.1)
 
-all_good : (B : List ℕ) (xs : List PieceRow) → All (Good B) xs → AllGood B xs
+all_good : (B : List ℕ) (xs : List PieceRow) → AllByRecursion (Good B) xs → AllGood B xs
 all_good B [] g = tt
 all_good B (x ∷ xs) g = (g.0, all_good B xs g.1)
 
@@ -77,7 +77,7 @@ module _ {A S : Type 0} (am : List ℕ → A) (bytes : S → List ℕ) (capacity
   from_counted : CountedText → TextSound am (bytes s) rs h
   from_counted c =
       two_trees
-      (λ ts. FitTrees (text_mean am (bytes s)) rs ts → All (Good (bytes s)) (rows_trees ts) → length (rows_trees ts) ≤ limit (length rs) → ((i : ℕ) → occ_trees ts i + occ_list c.sound.chain i ≡ named (length rs) i)
+      (λ ts. FitTrees (text_mean am (bytes s)) rs ts → AllByRecursion (Good (bytes s)) (rows_trees ts) → length (rows_trees ts) ≤ limit (length rs) → ((i : ℕ) → occ_trees ts i + occ_list c.sound.chain i ≡ named (length rs) i)
       → h.pieces ≡ length (rows_trees ts) → TextSound am (bytes s) rs h)
       (λ t k et ek fits good few once all.
       let g : AllGood (bytes s) (rows t ++ rows k) = subst (AllGood (bytes s)) (two_rows t k) (all_good (bytes s) (rows_trees (t ∷ (k ∷ []))) good) in

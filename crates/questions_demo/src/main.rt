@@ -2,7 +2,7 @@
 // 256. The checksums of the answers must be the same; beside them, the most bytes that one question read.
 #![tactic(auto)]
 
-use asking::{Asked, Slot, ask_all};
+use inquiries::{Asked, Slot, ask_all};
 use making::{Made, make};
 use measures::longest_line::LongestLine;
 use pieces::head::MarkRecord;
@@ -15,7 +15,7 @@ use stores::original::Original;
 use tallies::Tally;
 use text::Whole;
 
-mod asking;
+mod inquiries;
 mod making;
 mod tallies;
 

@@ -1,5 +1,5 @@
 // A text made by many small inserts, and beside it the plain bytes that it must have.
-use crate::asking::Slot;
+use crate::inquiries::Slot;
 use measures::longest_line::LongestLine;
 use pieces::head::MarkRecord;
 use plain::faults::TextFault;

@@ -2,7 +2,7 @@
 use Rattle.std.proofs.Common.{cond, is_err, Decides, sym, refl, ap, ◌∙◌, subst, ⊎_elim, arith, le-ltb}
 use lib.ListN.{length-replicate}
 use borrow.Rule.Slice.PartMut.{post_of, Post-is}
-use Rattle.std.specs.List.{HoldsAt, AllByRecursion as All}
+use Rattle.std.specs.List.{HoldsAt, AllByRecursion}
 use Rattle.std.proofs.lemmas.List.{get_or_past, get_or-replicate, get_or_default, length-take-le}
 use Rattle.std.proofs.lemmas.Bool.{cases_lt, cases_eq, both_ways}
 use Rattle.measures.specs.Law.{heaviest}
@@ -111,7 +111,7 @@ module _ {R I V S : Type 0} {w : Rules R I V S} {rs : List (Record R V)} {roots 
             first = chain.first;
             fits = a.is.fits;
             chained = chain.chained;
-            good_rows = subst (λ xs. All (w.good l) xs) a.each a.good_rows;
+            good_rows = subst (λ xs. AllByRecursion (w.good l) xs) a.each a.good_rows;
             few = omega (arith, a.elements, ap length a.each);
             light = omega (arith, a.weight, ap (wt w.weigh (w.items l)) a.each);
             once = λ i. once zero i;

@@ -1,6 +1,6 @@
 -- Visits of leaves, nodes and digits. Assumes nothing.
 use Rattle.std.proofs.Common.{is_err, sym, refl, ap, ◌∙◌, subst, arith}
-use Rattle.std.specs.List.{AllByRecursion as All}
+use Rattle.std.specs.List.{AllByRecursion}
 use Rattle.std.proofs.lemmas.List.{append-nil}
 use Rattle.measures.specs.Law.{weights}
 use Rattle.slots.specs.Ghost.{Twig, leaf, two, three, Arm, a1, a2, a3, a4, same, root, digit_of, rows_twig, rows_arm, occ_twig, occ_arm, At, FitTwig, FitArm}
@@ -143,7 +143,7 @@ module _ {R I V S : Type 0} {w : Rules R I V S} {rs : List (Record R V)} {s s₁
         stays = stays;
         says = λ light t h gd few wts apart.
             let down = leaf_down (mean w.means (w.items l)) rs i k t row v h.root_is (omega arith) h.fit e.at in
-            let good-row : All (w.good l) (row ∷ []) = subst (λ xs. All (w.good l) xs) down.0 gd in
+            let good-row : AllByRecursion (w.good l) (row ∷ []) = subst (λ xs. AllByRecursion (w.good l) xs) down.0 gd in
             (subst (λ z. Judged w.weigh w.means (w.items l) (w.good l) row v z) bad judged).says good-row.0 (down.1 ∙ ap w.means (append-nil (w.items l row)));
       }
   leaf_bad (Ok u) ent ok is low judged bad stays step err = absurd (let z : ◌≡◌ {A = ℕ} 0 1 = cc in omega arith)

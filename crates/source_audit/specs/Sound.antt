@@ -1,5 +1,5 @@
 -- When slots are sound: trees and a chain of free slots share them, and each slot is named exactly once.
-use Rattle.std.specs.List.{AllByRecursion as All}
+use Rattle.std.specs.List.{AllByRecursion}
 use Rattle.measures.specs.Law.{heaviest}
 use Rattle.std.specs.Prelude.{◌≡◌, List, [], ◌∷◌, ◌++◌, map, ℕ, ◌+◌, ◌≤◌, length}
 use Rattle.source_audit.specs.Words.{Link, Tree, Record}
@@ -26,7 +26,7 @@ module _ {R I V : Type 0} (weigh : I → ℕ) (means : List I → V) (items : R 
     pub first : head_of chain ≡ free
     pub fits : FitTrees (mean means items) rs trees
     pub chained : Chain rs chain
-    pub good_rows : All good (rows_trees trees)
+    pub good_rows : AllByRecursion good (rows_trees trees)
     pub few : length (rows_trees trees) ≤ limit
     pub light : wt weigh items (rows_trees trees) ≤ heaviest
     pub once : (i : ℕ) → occ_trees trees i + occ_list chain i ≡ named (length rs) i

@@ -1,6 +1,6 @@
 -- What visiting slots says. A visited slot is marked, so that a second visit of it is refused.
 use Rattle.std.specs.Prelude.{◌≢◌, ◌≡◌, List, [], ◌∷◌, map, ℕ, suc, ◌+◌, ◌≤◌, length, get_or, set}
-use Rattle.std.specs.List.{AllByRecursion as All}
+use Rattle.std.specs.List.{AllByRecursion}
 use Rattle.measures.specs.Law.{heaviest}
 use Rattle.std.specs.declared.result.Result.{Result}
 use Rattle.std.specs.declared.result.Result.TheVariants.{Ok, Err}
@@ -151,7 +151,7 @@ module _ {R I V S : Type 0} (w : Rules R I V S) where
     pub it : K.T
     pub is : K.Is (mean_at m) it
     pub each : xs ≡ K.text it
-    pub good_rows : All (w.good m.source) xs
+    pub good_rows : AllByRecursion (w.good m.source) xs
     pub elements : m.budget.elements ≡ m'.budget.elements + length xs
     pub weight : m.budget.weight ≡ m'.budget.weight + wt_at m xs
     pub marks : (j : ℕ) → mark m'.marks j ≡ mark m.marks j + K.names it j
@@ -159,7 +159,7 @@ module _ {R I V S : Type 0} (w : Rules R I V S) where
 
   -- there is none of good rows, within what is left of the limits and apart from the marked slots
   abbrev pub Nowhere : Kind R V → Moment S → Type 0
-  Nowhere K m = (t : K.T) → K.Is (mean_at m) t → All (w.good m.source) (K.text t) → length (K.text t) ≤ m.budget.elements → wt_at m (K.text t) ≤ m.budget.weight
+  Nowhere K m = (t : K.T) → K.Is (mean_at m) t → AllByRecursion (w.good m.source) (K.text t) → length (K.text t) ≤ m.budget.elements → wt_at m (K.text t) ≤ m.budget.weight
       → ((j : ℕ) → mark m.marks j + K.names t j ≤ 1) → ⊥
 
   abbrev pub Cases : Kind R V → Moment S → Moment S → List R → Result (Unit {0}) Unsound → Type 0

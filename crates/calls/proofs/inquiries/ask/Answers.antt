@@ -6,7 +6,7 @@ use Rattle.plain.specs.declared.answers.Answer.TheVariants as answer
 use Rattle.text.specs.Texts.{watched_of}
 use Rattle.calls.proofs.CallKinds.{no_question}
 use Rattle.calls.proofs.Questions.{passed_on, unread, answers}
-use Rattle.calls.proofs.asking.ask.Goals as goal
+use Rattle.calls.proofs.inquiries.ask.Goals as goal
 
 pub returns-in_err-line_of-in-LineOf : goal.returns-in_err-line_of-in-LineOf
 returns-in_err-line_of-in-LineOf g c kind = answers (λ m. line_of_offset (text m) c.in-LineOf.at) answer.Line c.in-LineOf.is (λ m. refl) (passed_on answer.Line _ _ c.from_residual.ensures.1) (c.in_err-line_of-in-LineOf.ensures (watched_of c.args.marks.now))
