@@ -96,7 +96,7 @@ def renaming():
         for path in files(ending):
             taken.update(TOKEN.findall(open(path).read()))
     new = {}
-    for name in sorted(filter(is_old, names)):
+    for name in sorted(filter(is_old, names), key=lambda name: ("-" in name, name)):
         to = TAKEN.get(name) or snake(name)
         if name not in TAKEN and (to in taken or to in new.values()):
             to += "_lem"

@@ -22,8 +22,8 @@ module _ {R V : Type 0} (rs : List (Record R V)) where
   sole_tree k t mn x y p q = tree_same mn rs k x y (p.root_is ∙ sym q.root_is) p.fit q.fit
 
   -- the digits and the middle of a level
-  abbrev pub spine_at_lem : ℕ → Digit → Tree → Digit → Kind R V
-  spine_at_lem k F M B = both (both (arm_at rs k F) (tree_at rs (k + 1) M)) (arm_at rs k B)
+  abbrev pub spine_kind : ℕ → Digit → Tree → Digit → Kind R V
+  spine_kind k F M B = both (both (arm_at rs k F) (tree_at rs (k + 1) M)) (arm_at rs k B)
 
 -- what a deep tree has at its slot
 deep_at : {R V : Type 0} (mn : List R → V) (rs : List (Record R V)) (i k : ℕ) (u : Finger R V) → tree_of u ≡ Deep i → Fit mn rs u k
@@ -37,7 +37,7 @@ deep_at {R} {V} mn rs i k (deep j v a m b) e fit f =
 
 module _ {R V : Type 0} (mn : List R → V) (rs : List (Record R V)) where
   level_down : (i : ℕ) (v : V) (F : Digit) (M : Tree) (B : Digit) (k : ℕ) (u : Finger R V) → tree_of u ≡ Deep i → Fit mn rs u k → levels u + k ≤ deepest → At rs i (Level F M B v)
-      → Made (below i (worth v (spine_at_lem rs k F M B))) (λ t. deep i v t.0.0 t.0.1 t.1) mn u
+      → Made (below i (worth v (spine_kind rs k F M B))) (λ t. deep i v t.0.0 t.0.1 t.1) mn u
   level_down i v F M B k nil e fit low at = absurd (let z : ◌≡◌ {A = ℕ} 0 1 = cc in omega arith)
   level_down i v F M B k (one t) e fit low at = absurd (let z : ◌≡◌ {A = ℕ} 0 1 = cc in omega arith)
   level_down i v F M B k (deep j v₁ a m b) e fit low at =
@@ -84,7 +84,7 @@ module _ {R I V S : Type 0} {w : Rules R I V S} {rs : List (Record R V)} {k : �
         deep_at (mean w.means (w.items l)) rs i k t (h.root_is ∙ is) h.fit (λ f m b v at has. bad f m b v (at_same refl e.at at)))
 
     as_level : {m₁ : Moment S} {F B : Digit} {M : Tree} {v : V} {c : Record R V} (r : Result (Unit {0}) Unsound) → T ≡ Deep i → Entered rs s s₁ i q → q ≡ Ok c → c ≡ Level F M B v
-        → Visited w (worth v (spine_at_lem rs k F M B)) (moment s₁ b l) m₁ r → Visited w (tree_at rs k T) (moment s b l) m₁ r
+        → Visited w (worth v (spine_kind rs k F M B)) (moment s₁ b l) m₁ r → Visited w (tree_at rs k T) (moment s b l) m₁ r
     as_level {F = F} {B} {M} {v} r is ent ok lev vx =
         let e = entered ent ok lev in
         let kk : k + 1 ≡ suc k = omega arith in
@@ -97,10 +97,10 @@ module _ {R I V S : Type 0} {w : Rules R I V S} {rs : List (Record R V)} {k : �
         (λ mn u h. level_down mn rs i v F M B k u (h.root_is ∙ is) h.fit h.low e.at)
 
     module _ {F B : Digit} {M : Tree} {v : V} {c : Record R V} (is : T ≡ Deep i) (ent : Entered rs s s₁ i q) (ok : q ≡ Ok c) (lev : c ≡ Level F M B v) where
-      pub level_stopped : {m₁ : Moment S} (p r : Result (Unit {0}) Unsound) → Visited w (spine_at_lem rs k F M B) (moment s₁ b l) m₁ p → is_err p ≡ true → is_err r ≡ true → Visited w (tree_at rs k T) (moment s b l) m₁ r
+      pub level_stopped : {m₁ : Moment S} (p r : Result (Unit {0}) Unsound) → Visited w (spine_kind rs k F M B) (moment s₁ b l) m₁ p → is_err p ≡ true → is_err r ≡ true → Visited w (tree_at rs k T) (moment s b l) m₁ r
       level_stopped p r vx bad err = as_level r is ent ok lev (not_found v p r vx bad err)
 
-      pub level_visited : {m₁ : Moment S} {p : Result (Unit {0}) Unsound} {u : Unit {0}} {f : Result V Unsound} (r : Result (Unit {0}) Unsound) → Visited w (spine_at_lem rs k F M B) (moment s₁ b l) m₁ p → p ≡ Ok u
+      pub level_visited : {m₁ : Moment S} {p : Result (Unit {0}) Unsound} {u : Unit {0}} {f : Result V Unsound} (r : Result (Unit {0}) Unsound) → Visited w (spine_kind rs k F M B) (moment s₁ b l) m₁ p → p ≡ Ok u
           → LevelValued w.weigh w.means rs F M B f → Confirmed f v r → Visited w (tree_at rs k T) (moment s b l) m₁ r
       level_visited r vx good va cf =
           as_level r is ent ok lev

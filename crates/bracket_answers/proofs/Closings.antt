@@ -3,7 +3,7 @@ use Rattle.std.proofs.Common.{◌≡◌, ℕ, suc, ◌+◌, ◌-◌, ◌<◌, �
 use Rattle.std.proofs.lemmas.List.{take_more, take-append-drop, drop_more, drop-take, drop-drop}
 use Rattle.std.proofs.lemmas.Bool.{ltb-true, ltb-false, leb-true, leb-false, le-leb}
 use Rattle.measures.specs.Law.{weights, heaviest}
-use Rattle.lexer.specs.Reading.{read_from_lem, reading, row_at}
+use Rattle.lexer.specs.Reading.{read_from, reading, row_at}
 use Rattle.lexer.specs.declared.tokens.TokenRow.{TokenRow}
 use Rattle.lexer.specs.RowJoins.{brackets_bound}
 use Rattle.lexer.specs.RowValues.{row_at_lem}
@@ -40,13 +40,13 @@ use Rattle.bracket_answers.proofs.Spotting.{makes, same_part, from_on, in_text}
 abbrev pub strayed : {A : Type 0} → TextValue A → Bool
 strayed v = leb 1 (row_at v.left.right 6).strays
 
-strays_in : {A : Type 0} (am : List ℕ → A) (bs : List ℕ) → row_at (text_means am bs).left.right 6 ≡ read_from_lem 6 bs
+strays_in : {A : Type 0} (am : List ℕ → A) (bs : List ℕ) → row_at (text_means am bs).left.right 6 ≡ read_from 6 bs
 strays_in am bs = row_at_lem (reading bs) bs 6 (omega arith) refl
 
-no_stray : {A : Type 0} (am : List ℕ → A) (bs : List ℕ) → strayed (text_means am bs) ≡ false → (read_from_lem 6 bs).strays ≡ 0
+no_stray : {A : Type 0} (am : List ℕ → A) (bs : List ℕ) → strayed (text_means am bs) ≡ false → (read_from 6 bs).strays ≡ 0
 no_stray am bs e = omega (arith, leb-false 1 (row_at (reading bs) 6).strays e, ap (λ (r : TokenRow). r.strays) (strays_in am bs))
 
-a_stray : {A : Type 0} (am : List ℕ → A) (bs : List ℕ) → strayed (text_means am bs) ≡ true → 1 ≤ (read_from_lem 6 bs).strays
+a_stray : {A : Type 0} (am : List ℕ → A) (bs : List ℕ) → strayed (text_means am bs) ≡ true → 1 ≤ (read_from 6 bs).strays
 a_stray am bs e = omega (arith, leb-true 1 (row_at (reading bs) 6).strays e, ap (λ (r : TokenRow). r.strays) (strays_in am bs))
 
 -- an offset lies in one row only
@@ -88,7 +88,7 @@ beyond {am = am} {B = B} {until = until} p {w = w} {q = q} F D start X xs x ys p
     (F.seeks (bytes_of B) D X.t X.tree X.fit X.few light start)
 
 -- the first stray close lies in the row z of the rows ys, read on from D, in which there is none
-reach_in : {A : Type 0} (am : List ℕ → A) (B D : List ℕ) (ys : List PieceRow) {w : TextValue A} {z : PieceRow} → AllGood B ys → (read_from_lem 6 D).strays ≡ 0 → Turned (text_means am) strayed (bytes_of B) D ys w z
+reach_in : {A : Type 0} (am : List ℕ → A) (B D : List ℕ) (ys : List PieceRow) {w : TextValue A} {z : PieceRow} → AllGood B ys → (read_from 6 D).strays ≡ 0 → Turned (text_means am) strayed (bytes_of B) D ys w z
     → {row : TokenRow} → row ≡ row_at w.left.right 6 → ReachIs B (D ++ flat (bytes_of B) ys) (record { row = z; offset = w.left.left.bytes; before = row })
 reach_in am B D ys {w} {z} good none H row_is =
     let L : List ℕ = flat (bytes_of B) H.xs in
@@ -101,8 +101,8 @@ reach_in am B D ys {w} {z} good none H row_is =
       good = (all_right B H.xs (z ∷ H.ys) (subst (AllGood B) H.parts good)).0;
       offset = ap (λ (u : TextValue _). u.left.left.bytes) H.past.place;
       before = row_is ∙ ap (λ (u : TextValue _). row_at u.left.right 6) H.past.place ∙ strays_in am (D ++ L);
-      quiet = ⊎_elim (λ e. ap (λ (l : List ℕ). (read_from_lem 6 l).strays) (ap (λ (l : List PieceRow). D ++ flat (bytes_of B) l) e ∙ append-nil D) ∙ none) (λ f. no_stray am (D ++ L) f) H.past.no;
-      close = subst (λ (l : List ℕ). 1 ≤ (read_from_lem 6 l).strays) two (a_stray am (D ++ flat (bytes_of B) (H.xs ++ (z ∷ []))) H.yes);
+      quiet = ⊎_elim (λ e. ap (λ (l : List ℕ). (read_from 6 l).strays) (ap (λ (l : List PieceRow). D ++ flat (bytes_of B) l) e ∙ append-nil D) ∙ none) (λ f. no_stray am (D ++ L) f) H.past.no;
+      close = subst (λ (l : List ℕ). 1 ≤ (read_from 6 l).strays) two (a_stray am (D ++ flat (bytes_of B) (H.xs ++ (z ∷ []))) H.yes);
     }
 
 module _ {A S : Type 0} {am : List ℕ → A} {bytes : S → List ℕ} {capacity reads : S → ℕ} {rs : List (Record PieceRow (TextValue A))} {tr : Tree} (p : ℕ) {rest : PieceRow} {s s₁ : S} {rm : Result (TextValue A) Unsound}
@@ -117,19 +117,19 @@ module _ {A S : Type 0} {am : List ℕ → A} {bytes : S → List ℕ} {capacity
   module _ {v : TextValue A} {row : TokenRow} (got : rm ≡ Ok v) (row_is : row ≡ row_at v.left.right 6) where
     -- what was measured
     measured : {T : List ℕ} (X : TextAt am (bytes s) rs tr T) (xs : List PieceRow) (x : PieceRow) (ys : List PieceRow) → rows X.t ≡ xs ++ (x ∷ ys) → rest.length < x.length → rest.address + rest.length ≤ length (bytes s)
-        → (v ≡ text_means am (bytes_of (bytes s) rest)) × (row ≡ read_from_lem 6 (bytes_of (bytes s) rest)) × (rest.length ≤ 256)
+        → (v ≡ text_means am (bytes_of (bytes s) rest)) × (row ≡ read_from 6 (bytes_of (bytes s) rest)) × (rest.length ≤ 256)
     measured X xs x ys parts less inside =
         let g : x.length ≤ 256 = (all_right (bytes s) xs (x ∷ ys) (subst (AllGood (bytes s)) parts X.good)).0.1 in
         let v-is : v ≡ text_means am (bytes_of (bytes s) rest) = ok_same got (M.value (omega arith) inside) in
         (v-is, row_is ∙ ap (λ (u : TextValue A). row_at u.left.right 6) v-is ∙ strays_in am (bytes_of (bytes s) rest), omega arith)
 
-    pub reach_here : {first : TokenRow} → 0 < row.strays → first ≡ read_from_lem 6 [] → CloseReached bytes capacity reads am rs tr p rest s s₁ (Ok (Some (record { row = rest; offset = 0; before = first })))
+    pub reach_here : {first : TokenRow} → 0 < row.strays → first ≡ read_from 6 [] → CloseReached bytes capacity reads am rs tr p rest s s₁ (Ok (Some (record { row = rest; offset = 0; before = first })))
     reach_here {first} some first-is = record {
       reaches = λ T X xs x ys parts lo hi less inside.
           let B : List ℕ = bytes s in
           let D : List ℕ = bytes_of B rest in
           let m = measured X xs x ys parts less inside in
-          let c : row.strays ≡ (read_from_lem 6 D).strays = ap (λ (r : TokenRow). r.strays) m.1 in
+          let c : row.strays ≡ (read_from 6 D).strays = ap (λ (r : TokenRow). r.strays) m.1 in
           let n : length D ≤ rest.length = omega (arith, length-take rest.length (drop rest.address B)) in
           inr (
             record { row = rest; offset = 0; before = first },
@@ -151,7 +151,7 @@ module _ {A S : Type 0} {am : List ℕ → A} {bytes : S → List ℕ} {capacity
     module _ {w : TextValue A} {q : Result (Option PieceRow) Unsound} (none : row.strays ≤ 0) (F : RowSought (λ _. 1) (text_means am) (past p) strayed rs tr v w q) where
       -- what lies after the rest
       after_rest : {T : List ℕ} (X : TextAt am (bytes s) rs tr T) (xs : List PieceRow) (x : PieceRow) (ys : List PieceRow) → rows X.t ≡ xs ++ (x ∷ ys) → sizes xs ≤ p → p < sizes xs + x.length → rest.length < x.length
-          → rest.address + rest.length ≤ length (bytes s) → ((read_from_lem 6 (bytes_of (bytes s) rest)).strays ≡ 0) × TurnsIn (text_means am) strayed (bytes_of (bytes s)) (bytes_of (bytes s) rest) ys w q
+          → rest.address + rest.length ≤ length (bytes s) → ((read_from 6 (bytes_of (bytes s) rest)).strays ≡ 0) × TurnsIn (text_means am) strayed (bytes_of (bytes s)) (bytes_of (bytes s) rest) ys w q
       after_rest X xs x ys parts lo hi less inside =
           let m = measured X xs x ys parts less inside in (
             omega (arith, ap (λ (r : TokenRow). r.strays) m.1),
@@ -174,7 +174,7 @@ module _ {A S : Type 0} {am : List ℕ → A} {bytes : S → List ℕ} {capacity
             (λ n. inl (
               refl,
               ⊎_elim
-                  (λ e. ap (λ (l : List ℕ). (read_from_lem 6 l).strays) (ap (λ (l : List PieceRow). D ++ flat (bytes_of B) l) e ∙ append-nil D) ∙ O.0)
+                  (λ e. ap (λ (l : List ℕ). (read_from 6 l).strays) (ap (λ (l : List PieceRow). D ++ flat (bytes_of B) l) e ∙ append-nil D) ∙ O.0)
                   (λ g. no_stray am (D ++ flat (bytes_of B) ys) g) n.1.no,
             ))
             (λ y. absurd (some_none (ok_same y.1 gf ∙ nay))) O.1;
@@ -211,7 +211,7 @@ module _ {A S : Type 0} {am : List ℕ → A} {bytes : S → List ℕ} {capacity
 
   -- the close was reached in the bytes after the open, or there is none
   reaching : (T : List ℕ) (X : TextAt am (bytes s) rs tr T) → StandsAt (bytes s) (rows X.t) p x
-      → ((q ≡ Ok None) × ((read_from_lem 6 (drop (suc p) T)).strays ≡ 0)) ⊎ ((h : Reach) × (q ≡ Ok (Some h)) × ReachIs (bytes s) (drop (suc p) T) h)
+      → ((q ≡ Ok None) × ((read_from 6 (drop (suc p) T)).strays ≡ 0)) ⊎ ((h : Reach) × (q ≡ Ok (Some h)) × ReachIs (bytes s) (drop (suc p) T) h)
   reaching T X st =
       let B : List ℕ = bytes s in
       let rest : PieceRow = record { address = address; length = size } in
@@ -224,7 +224,7 @@ module _ {A S : Type 0} {am : List ℕ → A} {bytes : S → List ℕ} {capacity
       ap₂ (λ (n a : ℕ). take n (drop a B)) many there ∙ sym (from_byte B x.row (x.stop.index + 1) (omega (arith, st.within))) in
       let all : drop (suc p) T ≡ bytes_of B rest ++ flat (bytes_of B) st.ys = from_on X.spells st ∙ ap (λ (l : List ℕ). l ++ flat (bytes_of B) st.ys) (sym part) in
       let L-size : length (flat (bytes_of B) st.xs) ≡ sizes st.xs = flat_size B st.xs (all_left B st.xs (x.row ∷ st.ys) (subst (AllGood B) st.parts X.good)) in
-      subst (λ (l : List ℕ). ((q ≡ Ok None) × ((read_from_lem 6 l).strays ≡ 0)) ⊎ ((h : Reach) × (q ≡ Ok (Some h)) × ReachIs (bytes s) l h)) (sym all)
+      subst (λ (l : List ℕ). ((q ≡ Ok None) × ((read_from 6 l).strays ≡ 0)) ⊎ ((h : Reach) × (q ≡ Ok (Some h)) × ReachIs (bytes s) l h)) (sym all)
       (C.reaches T X st.xs x.row st.ys st.parts (omega (arith, L-size, st.place)) (omega (arith, L-size, st.place, st.within)) (omega (arith, st.within)) (omega (arith, st.within)))
 
   pub close_lost : {e : Unsound} {r : Result (Option Other) Unsound} → q ≡ Err e → CloseTold bytes capacity reads am rs tr p x s s₁ r
@@ -257,7 +257,7 @@ module _ {A S : Type 0} {am : List ℕ → A} {bytes : S → List ℕ} {capacity
           let size : length Y ≡ h.row.length = row_size B h.row K.good in
           let less : length (drop (suc p) T) ≤ length T = omega (arith, ap length (take-append-drop (suc p) T), length-append (take (suc p) T) (drop (suc p) T)) in
           let long : length (drop (suc p) T) ≡ length K.front + (length Y + length K.back) = ap length K.text ∙ length-append K.front (Y ++ K.back) ∙ ap (λ (k : ℕ). length K.front + k) (length-append Y K.back) in
-          E.stops 6 K.front Y part K.before (omega (arith, same.address_is, same.length_is, ap length e)) (omega (arith, same.length_is, light_text X)) (le-leb 1 (read_from_lem 6 (K.front ++ Y)).strays K.close)
+          E.stops 6 K.front Y part K.before (omega (arith, same.address_is, same.length_is, ap length e)) (omega (arith, same.length_is, light_text X)) (le-leb 1 (read_from 6 (K.front ++ Y)).strays K.close)
 
       pub close_unread : {e : Unsound} {r : Result (Option Other) Unsound} → rj ≡ Err e → CloseTold bytes capacity reads am rs tr p x s s₂ r
       close_unread bad = record { tells = λ T X st. absurd (ok_err (scanned T X (reached_at T X st)).1 bad); reading = all_reads }
@@ -294,9 +294,9 @@ module _ {A S : Type 0} {am : List ℕ → A} {bytes : S → List ℕ} {capacity
                 text = text;
                 offset = omega (arith, K.offset);
                 quiet = ⊎_elim
-                    (λ (e : i ≡ 0). ap (λ (l : List ℕ). (read_from_lem 6 l).strays) (ap (λ (k : ℕ). K.front ++ take k Y) e ∙ append-nil K.front) ∙ K.quiet)
+                    (λ (e : i ≡ 0). ap (λ (l : List ℕ). (read_from 6 l).strays) (ap (λ (k : ℕ). K.front ++ take k Y) e ∙ append-nil K.front) ∙ K.quiet)
                     (λ e. omega (arith, leb-false 1 z.before.strays e, ap (λ (r : TokenRow). r.strays) D.before)) D.no;
-                close = omega (arith, leb-true 1 z.after.strays D.yes, ap (λ (r : TokenRow). r.strays) D.after, ap (λ (l : List ℕ). (read_from_lem 6 l).strays) more);
+                close = omega (arith, leb-true 1 z.after.strays D.yes, ap (λ (r : TokenRow). r.strays) D.after, ap (λ (l : List ℕ). (read_from 6 l).strays) more);
               },
             );
         reading = all_reads;

@@ -5,7 +5,7 @@ use Rattle.std.specs.Option.{option_map}
 use Rattle.plain.specs.Lists.{at}
 use Rattle.plain.specs.Tokens.{end_state}
 use Rattle.measures.specs.Law.{heaviest}
-use Rattle.lexer.specs.Reading.{read_from_lem}
+use Rattle.lexer.specs.Reading.{read_from}
 use Rattle.lexer.specs.declared.tokens.TokenRow.{TokenRow}
 use Rattle.lexer.specs.RowJoins.{brackets_bound}
 use Rattle.stores.specs.Stores.{Lawful}
@@ -55,8 +55,8 @@ module _ {A : Type 0} {rs : List (Record PieceRow (TextValue A))} {tr : Tree} {x
         let part : bytes_of B row ≡ bs = sym (take-take k x.row.length (drop x.row.address B) (omega (arith, st.within))) in
         let long = long_row X.spells st in
         let size : length bs ≡ k = omega (arith, length-take k Y, long, st.within) in
-        let u : x.stop.before.unmet ≡ (read_from_lem (end_state 0 L) bs).unmet = ap (λ (r : TokenRow). r.unmet) st.before in
-        let u' : x.stop.before.unmet ≡ (read_from_lem (end_state 0 L) (bytes_of B row)).unmet = u ∙ ap (λ (l : List ℕ). (read_from_lem (end_state 0 L) l).unmet) (sym part) in
+        let u : x.stop.before.unmet ≡ (read_from (end_state 0 L) bs).unmet = ap (λ (r : TokenRow). r.unmet) st.before in
+        let u' : x.stop.before.unmet ≡ (read_from (end_state 0 L) (bytes_of B row)).unmet = u ∙ ap (λ (l : List ℕ). (read_from (end_state 0 L) l).unmet) (sym part) in
         let g₁ : x.row.length ≤ 256 = st.good.1 in
         let g₂ : x.row.address + x.row.length ≤ length B = st.good.2 in
         let bound = brackets_bound (end_state 0 L) bs in
@@ -64,7 +64,7 @@ module _ {A : Type 0} {rs : List (Record PieceRow (TextValue A))} {tr : Tree} {x
         in_three X.spells st
         ∙ ap (λ (l : List ℕ). L ++ (l ++ flat (bytes_of B) st.ys)) (sym (take-append-drop k Y))
         ∙ ap (λ (l : List ℕ). L ++ l) (append_assoc bs (drop k Y) (flat (bytes_of B) st.ys) ∙ ap (λ (l : List ℕ). l ++ (drop k Y ++ flat (bytes_of B) st.ys)) (sym part)) in
-        let top : 0 ≡ (read_from_lem (end_state 0 L) (bytes_of B row)).unmet - x.stop.before.unmet = omega (arith, u') in
+        let top : 0 ≡ (read_from (end_state 0 L) (bytes_of B row)).unmet - x.stop.before.unmet = omega (arith, u') in
         inr (
           record { row = row; start = x.start; rank = x.stop.before.unmet },
           refl,
@@ -90,9 +90,9 @@ module _ {A : Type 0} {rs : List (Record PieceRow (TextValue A))} {tr : Tree} {x
         let L : List ℕ = flat (bytes_of B) st.xs in
         let Y : List ℕ = bytes_of B x.row in
         let bs : List ℕ = take x.stop.index Y in
-        let u : x.stop.before.unmet ≡ (read_from_lem (end_state 0 L) bs).unmet = ap (λ (q : TokenRow). q.unmet) st.before in
-        let c : x.stop.before.strays ≡ (read_from_lem (end_state 0 L) bs).strays = ap (λ (q : TokenRow). q.strays) st.before in
-        let place : (0 - (read_from_lem (end_state 0 L) bs).unmet) + (read_from_lem (end_state 0 L) bs).strays ≡ x.stop.before.strays = omega (arith, u, c) in
+        let u : x.stop.before.unmet ≡ (read_from (end_state 0 L) bs).unmet = ap (λ (q : TokenRow). q.unmet) st.before in
+        let c : x.stop.before.strays ≡ (read_from (end_state 0 L) bs).strays = ap (λ (q : TokenRow). q.strays) st.before in
+        let place : (0 - (read_from (end_state 0 L) bs).unmet) + (read_from (end_state 0 L) bs).strays ≡ x.stop.before.strays = omega (arith, u, c) in
         let sought : at (waited 0 0 [] (take p T)) 0 ≡ at (waited 0 0 [] L) x.stop.before.strays =
         ap (λ (l : List ℕ). at (waited 0 0 [] l) 0) (up_to X.spells st) ∙ last_of L bs
         ∙ waits_before (end_state 0 L) (length L) (waited 0 0 [] L) bs 0 (omega (arith, u)) ∙ ap (at (waited 0 0 [] L)) place in
@@ -152,7 +152,7 @@ module _ {A S : Type 0} {bytes : S → List ℕ} {capacity reads : S → ℕ} {r
           let within : h.row.address + h.row.length ≤ length (bytes s) = D.good.2 in
           let st : h.start.state ≡ end_state 0 D.front = D.start.state in
           let J = M.meets (bytes_of (bytes s) h.row) (same_part (bytes s) h.row same) (omega (arith, same.address_is, same.length_is)) D.some
-          (subst (λ (k : ℕ). h.rank ≤ (read_from_lem k (bytes_of (bytes s) h.row)).unmet) (sym st) D.own) in
+          (subst (λ (k : ℕ). h.rank ≤ (read_from k (bytes_of (bytes s) h.row)).unmet) (sym st) D.own) in
           (J.0, J.1, subst (λ (k : ℕ). MetIn k (bytes_of (bytes s) h.row) h.rank J.0) st J.2)
 
       pub open_unread : {e : Unsound} {r : Result (Option Other) Unsound} → rm ≡ Err e → OpenTold bytes capacity reads rs tr x s s' r

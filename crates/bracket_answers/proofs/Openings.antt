@@ -6,7 +6,7 @@ use Rattle.std.proofs.lemmas.Bool.{eqb-true, eqb-false, eq-eqb, and_from, and_le
 use Rattle.plain.specs.Brackets.{waiting}
 use Rattle.plain.specs.Lists.{at}
 use Rattle.plain.specs.Tokens.{step, end_state}
-use Rattle.lexer.specs.Reading.{read_from_lem}
+use Rattle.lexer.specs.Reading.{read_from}
 use Rattle.lexer.specs.declared.tokens.TokenRow.{TokenRow}
 use Rattle.stores.specs.Stores.{ReadsAt}
 use Rattle.slots.specs.declared.records.Unsound.{Unsound}
@@ -27,19 +27,19 @@ length_tail [] = refl
 length_tail (w ∷ ws) = omega arith
 
 -- one byte more
-module _ (q : ℕ) (us : List ℕ) (b rank : ℕ) (m : Met) (some : 1 ≤ rank) (former : rank ≤ (read_from_lem q us).unmet → MetIn q us rank m) (own : rank ≤ (read_from_lem q (us ++ (b ∷ []))).unmet) where
+module _ (q : ℕ) (us : List ℕ) (b rank : ℕ) (m : Met) (some : 1 ≤ rank) (former : rank ≤ (read_from q us).unmet → MetIn q us rank m) (own : rank ≤ (read_from q (us ++ (b ∷ []))).unmet) where
   abbrev vs : List ℕ
   vs = us ++ (b ∷ [])
 
   abbrev n : ℕ
   n = (step (end_state q us) b).0
 
-  state_is : (read_from_lem q vs).state ≡ n
+  state_is : (read_from q vs).state ≡ n
   state_is = end_read q vs ∙ end_append q us (b ∷ [])
 
   -- the former open is still of that rank
-  stays : kept m (read_from_lem q vs) rank (length us) b ≡ m → rank ≤ (read_from_lem q us).unmet
-      → ((o : ℕ) → at (waited q o [] vs) ((read_from_lem q vs).unmet - rank) ≡ at (waited q o [] us) ((read_from_lem q us).unmet - rank)) → MetIn q vs rank (kept m (read_from_lem q vs) rank (length us) b)
+  stays : kept m (read_from q vs) rank (length us) b ≡ m → rank ≤ (read_from q us).unmet
+      → ((o : ℕ) → at (waited q o [] vs) ((read_from q vs).unmet - rank) ≡ at (waited q o [] us) ((read_from q us).unmet - rank)) → MetIn q vs rank (kept m (read_from q vs) rank (length us) b)
   stays is le same =
       let M = former le in
       subst (MetIn q vs rank) (sym is) (record {
@@ -48,58 +48,58 @@ module _ (q : ℕ) (us : List ℕ) (b rank : ℕ) (m : Met) (some : 1 ≤ rank) 
         place = λ o. same o ∙ M.place o;
       })
 
-  not_kept : eqb (read_from_lem q vs).state 6 && eqb (read_from_lem q vs).unmet rank ≡ false → kept m (read_from_lem q vs) rank (length us) b ≡ m
+  not_kept : eqb (read_from q vs).state 6 && eqb (read_from q vs).unmet rank ≡ false → kept m (read_from q vs) rank (length us) b ≡ m
   not_kept e = ap (λ (t : Bool). cond t (record { index = length us; byte = b }) m) e
 
-  no_open : eqb n 6 ≡ false → kept m (read_from_lem q vs) rank (length us) b ≡ m
-  no_open e = not_kept (and_left (eqb (read_from_lem q vs).state 6) (eqb (read_from_lem q vs).unmet rank) (ap (λ (k : ℕ). eqb k 6) state_is ∙ e))
+  no_open : eqb n 6 ≡ false → kept m (read_from q vs) rank (length us) b ≡ m
+  no_open e = not_kept (and_left (eqb (read_from q vs).state 6) (eqb (read_from q vs).unmet rank) (ap (λ (k : ℕ). eqb k 6) state_is ∙ e))
 
-  pub met_more : MetIn q vs rank (kept m (read_from_lem q vs) rank (length us) b)
+  pub met_more : MetIn q vs rank (kept m (read_from q vs) rank (length us) b)
   met_more = by (turn_of n)
     where
-      by : Turn n → MetIn q vs rank (kept m (read_from_lem q vs) rank (length us) b)
-      by (opens e) = now (eqb (read_from_lem q vs).unmet rank) refl
+      by : Turn n → MetIn q vs rank (kept m (read_from q vs) rank (length us) b)
+      by (opens e) = now (eqb (read_from q vs).unmet rank) refl
         where
           waits : (o : ℕ) → waited q o [] vs ≡ (o + length us) ∷ waited q o [] us
           waits o = waited_more q o [] us b ∙ ap (λ (k : ℕ). waiting k (o + length us) (waited q o [] us)) e
 
-          grows : (read_from_lem q vs).unmet ≡ (read_from_lem q us).unmet + 1
+          grows : (read_from q vs).unmet ≡ (read_from q us).unmet + 1
           grows = omega (arith, unmet_are q 0 vs, unmet_are q 0 us, ap length (waits 0))
 
-          is_open : eqb (read_from_lem q vs).state 6 ≡ true
-          is_open = eq-eqb (read_from_lem q vs).state 6 (state_is ∙ e)
+          is_open : eqb (read_from q vs).state 6 ≡ true
+          is_open = eq-eqb (read_from q vs).state 6 (state_is ∙ e)
 
-          now : (t : Bool) → eqb (read_from_lem q vs).unmet rank ≡ t → MetIn q vs rank (kept m (read_from_lem q vs) rank (length us) b)
+          now : (t : Bool) → eqb (read_from q vs).unmet rank ≡ t → MetIn q vs rank (kept m (read_from q vs) rank (length us) b)
           now true r =
-              let top : (read_from_lem q vs).unmet - rank ≡ 0 = omega (arith, eqb-true (read_from_lem q vs).unmet rank r) in
-              let here : kept m (read_from_lem q vs) rank (length us) b ≡ record { index = length us; byte = b } =
-              ap (λ (t : Bool). cond t (record { index = length us; byte = b }) m) (and_from (eqb (read_from_lem q vs).state 6) (eqb (read_from_lem q vs).unmet rank) is_open r) in
+              let top : (read_from q vs).unmet - rank ≡ 0 = omega (arith, eqb-true (read_from q vs).unmet rank r) in
+              let here : kept m (read_from q vs) rank (length us) b ≡ record { index = length us; byte = b } =
+              ap (λ (t : Bool). cond t (record { index = length us; byte = b }) m) (and_from (eqb (read_from q vs).state 6) (eqb (read_from q vs).unmet rank) is_open r) in
               subst (MetIn q vs rank) (sym here) (record {
                 within = omega (arith, length-append us (b ∷ []));
                 byte = sym (get_or_push us b 0 (length us) refl);
                 place = λ o. ap₂ (λ (l : List ℕ) (k : ℕ). at l k) (waits o) top;
               })
           now false r =
-              let other : (read_from_lem q vs).unmet ≡ rank → ⊥ = eqb-false (read_from_lem q vs).unmet rank r in
-              let le : rank ≤ (read_from_lem q us).unmet = omega (arith, grows, own, other) in
-              let next : (read_from_lem q vs).unmet - rank ≡ suc ((read_from_lem q us).unmet - rank) = omega (arith, grows) in
-              stays (not_kept (and_right (eqb (read_from_lem q vs).state 6) (eqb (read_from_lem q vs).unmet rank) r)) le (λ o. ap₂ (λ (l : List ℕ) (k : ℕ). at l k) (waits o) next)
+              let other : (read_from q vs).unmet ≡ rank → ⊥ = eqb-false (read_from q vs).unmet rank r in
+              let le : rank ≤ (read_from q us).unmet = omega (arith, grows, own, other) in
+              let next : (read_from q vs).unmet - rank ≡ suc ((read_from q us).unmet - rank) = omega (arith, grows) in
+              stays (not_kept (and_right (eqb (read_from q vs).state 6) (eqb (read_from q vs).unmet rank) r)) le (λ o. ap₂ (λ (l : List ℕ) (k : ℕ). at l k) (waits o) next)
       by (closes e) =
           let waits : (o : ℕ) → waited q o [] vs ≡ tail (waited q o [] us) = λ o. waited_more q o [] us b ∙ ap (λ (k : ℕ). waiting k (o + length us) (waited q o [] us)) e in
-          let shrinks : (read_from_lem q vs).unmet ≡ (read_from_lem q us).unmet - 1 = omega (arith, unmet_are q 0 vs, unmet_are q 0 us, ap length (waits 0), length_tail (waited q 0 [] us)) in
-          let next : suc ((read_from_lem q vs).unmet - rank) ≡ (read_from_lem q us).unmet - rank = omega (arith, shrinks, own, some) in
+          let shrinks : (read_from q vs).unmet ≡ (read_from q us).unmet - 1 = omega (arith, unmet_are q 0 vs, unmet_are q 0 us, ap length (waits 0), length_tail (waited q 0 [] us)) in
+          let next : suc ((read_from q vs).unmet - rank) ≡ (read_from q us).unmet - rank = omega (arith, shrinks, own, some) in
           stays (no_open (ap (λ (k : ℕ). eqb k 6) e)) (omega (arith, shrinks, own, some))
-          (λ o. ap (λ (l : List ℕ). at l ((read_from_lem q vs).unmet - rank)) (waits o) ∙ at_tail (waited q o [] us) ((read_from_lem q vs).unmet - rank) ∙ ap (at (waited q o [] us)) next)
+          (λ o. ap (λ (l : List ℕ). at l ((read_from q vs).unmet - rank)) (waits o) ∙ at_tail (waited q o [] us) ((read_from q vs).unmet - rank) ∙ ap (at (waited q o [] us)) next)
       by (quiet e f) =
           let waits : (o : ℕ) → waited q o [] vs ≡ waited q o [] us = λ o. waited_more q o [] us b ∙ quiet_waiting n (o + length us) (waited q o [] us) e f in
-          let same : (read_from_lem q vs).unmet ≡ (read_from_lem q us).unmet = omega (arith, unmet_are q 0 vs, unmet_are q 0 us, ap length (waits 0)) in
+          let same : (read_from q vs).unmet ≡ (read_from q us).unmet = omega (arith, unmet_are q 0 vs, unmet_are q 0 us, ap length (waits 0)) in
           stays (no_open e) (omega (arith, same, own)) (λ o. ap₂ (λ (l : List ℕ) (k : ℕ). at l (k - rank)) (waits o) same)
 
 module _ {S : Type 0} (bytes : S → List ℕ) (capacity reads : S → ℕ) where
   -- i bytes have been read
   pub record Opening (s s' : S) (a n i q rank : ℕ) (row : TokenRow) (m : Met) : Type 0 where
-    pub row_is : (bs : List ℕ) → bs ≡ take n (drop a (bytes s)) → a + n ≤ length (bytes s) → row ≡ read_from_lem q (take i bs)
-    pub met_is : (bs : List ℕ) → bs ≡ take n (drop a (bytes s)) → a + n ≤ length (bytes s) → 1 ≤ rank → rank ≤ (read_from_lem q (take i bs)).unmet → MetIn q (take i bs) rank m
+    pub row_is : (bs : List ℕ) → bs ≡ take n (drop a (bytes s)) → a + n ≤ length (bytes s) → row ≡ read_from q (take i bs)
+    pub met_is : (bs : List ℕ) → bs ≡ take n (drop a (bytes s)) → a + n ≤ length (bytes s) → 1 ≤ rank → rank ≤ (read_from q (take i bs)).unmet → MetIn q (take i bs) rank m
     pub few : reads s' ≤ reads s + i
     pub same_bytes : bytes s' ≡ bytes s
     pub same_capacity : capacity s' ≡ capacity s
@@ -109,7 +109,7 @@ long : (a n : ℕ) (B bs : List ℕ) → bs ≡ take n (drop a B) → a + n ≤ 
 long a n B bs here inside = ap length here ∙ length-take n (drop a B) ∙ simp length-drop (omega arith)
 
 module _ {S : Type 0} {bytes : S → List ℕ} {capacity reads : S → ℕ} {s : S} {a n q rank : ℕ} where
-  pub opening_none : {row : TokenRow} {m : Met} → row ≡ read_from_lem q [] → Opening bytes capacity reads s s a n 0 q rank row m
+  pub opening_none : {row : TokenRow} {m : Met} → row ≡ read_from q [] → Opening bytes capacity reads s s a n 0 q rank row m
   opening_none e = record {
     row_is = λ bs here inside. e;
     met_is = λ bs here inside some own. absurd (omega (arith, unmet_are q 0 []));
@@ -126,15 +126,15 @@ module _ {S : Type 0} {bytes : S → List ℕ} {capacity reads : S → ℕ} {s :
       ∙ sym (ap (λ (l : List ℕ). get_or l i 0) here ∙ get_or-take n (drop a (bytes s)) i 0 lt ∙ get_or-drop a (bytes s) i 0) in
       let more : (bs : List ℕ) → bs ≡ take n (drop a (bytes s)) → a + n ≤ length (bytes s) → take i bs ++ (b ∷ []) ≡ take (i + 1) bs = λ bs here inside.
       sym (take_more bs i 0 (omega (arith, long a n (bytes s) bs here inside)) ∙ ap (λ (y : ℕ). take i bs ++ (y ∷ [])) (sym (byte_is bs here))) in
-      let next : (bs : List ℕ) → bs ≡ take n (drop a (bytes s)) → a + n ≤ length (bytes s) → row' ≡ read_from_lem q (take i bs ++ (b ∷ [])) = λ bs here inside.
+      let next : (bs : List ℕ) → bs ≡ take n (drop a (bytes s)) → a + n ≤ length (bytes s) → row' ≡ read_from q (take i bs ++ (b ∷ [])) = λ bs here inside.
       add q (take i bs) (omega (arith, length-take i bs)) (p.row_is bs here inside) in
       record {
-        row_is = λ bs here inside. next bs here inside ∙ ap (read_from_lem q) (more bs here inside);
+        row_is = λ bs here inside. next bs here inside ∙ ap (read_from q) (more bs here inside);
         met_is = λ bs here inside some own.
             let size : length (take i bs) ≡ i = omega (arith, length-take i bs, long a n (bytes s) bs here inside) in
-            let own' : rank ≤ (read_from_lem q (take i bs ++ (b ∷ []))).unmet = omega (arith, own, ap (λ (l : List ℕ). (read_from_lem q l).unmet) (more bs here inside)) in
+            let own' : rank ≤ (read_from q (take i bs ++ (b ∷ []))).unmet = omega (arith, own, ap (λ (l : List ℕ). (read_from q l).unmet) (more bs here inside)) in
             let M = met_more q (take i bs) b rank m some (λ le. p.met_is bs here inside some le) own' in
-            let m-there : kept m (read_from_lem q (take i bs ++ (b ∷ []))) rank (length (take i bs)) b ≡ m' =
+            let m-there : kept m (read_from q (take i bs ++ (b ∷ []))) rank (length (take i bs)) b ≡ m' =
             ap₂ (λ (r : TokenRow) (k : ℕ). kept m r rank k b) (sym (next bs here inside)) size ∙ sym m-is in
             subst (λ (l : List ℕ). MetIn q l rank m') (more bs here inside) (subst (MetIn q (take i bs ++ (b ∷ [])) rank) m-there M);
         few = omega (arith, R.counts, p.few);
@@ -153,6 +153,6 @@ module _ {S : Type 0} {bytes : S → List ℕ} {capacity reads : S → ℕ} {s :
   opening_all {i = i} {m = m} ge le short p = record {
     meets = λ bs here inside some own.
         let whole : take i bs ≡ bs = take_all i bs (omega (arith, long a n (bytes s) bs here inside)) in
-        (m, refl, subst (λ (l : List ℕ). MetIn q l rank m) whole (p.met_is bs here inside some (subst (λ (l : List ℕ). rank ≤ (read_from_lem q l).unmet) (sym whole) own)));
+        (m, refl, subst (λ (l : List ℕ). MetIn q l rank m) whole (p.met_is bs here inside some (subst (λ (l : List ℕ). rank ≤ (read_from q l).unmet) (sym whole) own)));
     reading = record { few = omega (arith, p.few); same_bytes = p.same_bytes; same_capacity = p.same_capacity };
   }

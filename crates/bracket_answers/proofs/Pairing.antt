@@ -10,7 +10,7 @@ use Rattle.plain.specs.Tokens.{step, end_state}
 use Rattle.plain.specs.declared.answers.Bracket.{Bracket}
 use Rattle.plain.specs.declared.answers.Bracket.TheVariants.{Paired}
 use Rattle.measures.specs.Counts.{count_append}
-use Rattle.lexer.specs.Reading.{read_from_lem}
+use Rattle.lexer.specs.Reading.{read_from}
 use Rattle.slots.specs.Ghost.{rows}
 use Rattle.slots.specs.Values.{flat}
 use Rattle.slots.specs.declared.records.Record.{Record}
@@ -40,7 +40,7 @@ settled_append s i os (x ∷ xs) ys =
     ∙ ap (λ (j : ℕ). (settled n i os ++ settled_in n (suc i) (waiting n i os) xs) ++ settled_in (end_state n xs) j (waited n (suc i) (waiting n i os) xs) ys) (omega arith)
 
 -- the first stray close is a close, and no open waits before it
-stray_turn : (us : List ℕ) (c i : ℕ) → (read_from_lem 6 us).strays ≡ 0 → 1 ≤ (read_from_lem 6 (us ++ (c ∷ []))).strays → (waited 6 i [] us ≡ []) × ((step (end_state 6 us) c).0 ≡ 7)
+stray_turn : (us : List ℕ) (c i : ℕ) → (read_from 6 us).strays ≡ 0 → 1 ≤ (read_from 6 (us ++ (c ∷ []))).strays → (waited 6 i [] us ≡ []) × ((step (end_state 6 us) c).0 ≡ 7)
 stray_turn us c i none some =
     let n = (step (end_state 6 us) c).0 in
     let all = ap (count is_stray) (settled_append 6 i [] us (c ∷ [])) in
@@ -67,7 +67,7 @@ module _ {B T : List ℕ} {R : List PieceRow} {p : ℕ} {x : Spot} (spells : fla
       ∙ no_bracket (take p T) b (drop (suc p) T) p (long_front spells st)
       (ne_eqb (step (end_state 0 (take p T)) b).0 6 (λ h. e (led_to spells st ∙ h))) (ne_eqb (step (end_state 0 (take p T)) b).0 7 (λ h. f (led_to spells st ∙ h)))
 
-  pub bracket_open : (o : Option Other) → x.stop.after.state ≡ 6 → ((o ≡ None) × ((read_from_lem 6 (drop (suc p) T)).strays ≡ 0)) ⊎ ((y : Other) × (o ≡ Some y) × StrayIs (drop (suc p) T) (suc p) y)
+  pub bracket_open : (o : Option Other) → x.stop.after.state ≡ 6 → ((o ≡ None) × ((read_from 6 (drop (suc p) T)).strays ≡ 0)) ⊎ ((y : Other) × (o ≡ Some y) × StrayIs (drop (suc p) T) (suc p) y)
       → bracket_of_offset T p ≡ Some (after_open_of b o)
   bracket_open o is = ⊎_elim
       (λ f.

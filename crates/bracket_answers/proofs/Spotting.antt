@@ -5,7 +5,7 @@ use Rattle.std.proofs.lemmas.List.{take-append-drop, get_or_append_left, get_or-
 use Rattle.std.proofs.lemmas.Bool.{ltb-false, leb-true, leb-false, le-leb}
 use Rattle.plain.specs.Tokens.{step, end_state}
 use Rattle.measures.specs.declared.totals.Totals.{Totals}
-use Rattle.lexer.specs.Reading.{read_from_lem, reading, row_at}
+use Rattle.lexer.specs.Reading.{read_from, reading, row_at}
 use Rattle.lexer.specs.declared.tokens.TokenRow.{TokenRow}
 use Rattle.lexer.specs.RowValues.{row_at_lem}
 use Rattle.stores.specs.Stores.{Lawful}
@@ -31,8 +31,8 @@ use Rattle.token_questions.proofs.Counted.{end_append, end_more}
 use Rattle.bracket_answers.specs.Spots.{StandsAt, SpotFound}
 use Rattle.bracket_answers.specs.declared.spot.Spot.{Spot}
 
-pub end_read : (s : ℕ) (bs : List ℕ) → (read_from_lem s bs).state ≡ end_state s bs
-unfolding read_from_lem
+pub end_read : (s : ℕ) (bs : List ℕ) → (read_from s bs).state ≡ end_state s bs
+unfolding read_from
 end_read s bs = refl
 
 -- a good row makes a piece
@@ -58,7 +58,7 @@ module _ {A S : Type 0} {am : List ℕ → A} {bytes : S → List ℕ} {capacity
     spot_no_piece law nay = record { finds = λ T X h. absurd (nay (makes law s x (inside start F X got yea).good)); reading = reads_none }
 
     module _ {s' : S} {y : Piece} {k count : ℕ} {row first : TokenRow} {rj : Result Stop Unsound} (same : SamePiece x y) (row_is : row ≡ row_at w.left.right 0) (k_is : k ≡ p - w.left.left.bytes)
-        (count_is : count ≡ min (k + 1) 4294967295) (first-is : first ≡ read_from_lem row.state []) (E : Scanned bytes capacity reads s s' y.address y.length first (Bytes count) rj) where
+        (count_is : count ≡ min (k + 1) 4294967295) (first-is : first ≡ read_from row.state []) (E : Scanned bytes capacity reads s s' y.address y.length first (Bytes count) rj) where
       pub spot_reads : Reads bytes capacity reads 256 s s'
       spot_reads = record { few = E.few; same_bytes = E.same_bytes; same_capacity = E.same_capacity }
 
@@ -86,7 +86,7 @@ module _ {A S : Type 0} {am : List ℕ → A} {bytes : S → List ℕ} {capacity
           let state : row.state ≡ end_state 0 L = ap (λ (r : TokenRow). r.state) (row_is ∙ row_at_lem w.left.right L 0 (omega arith) rows_are) ∙ end_read 0 L in
           let part = same_part B x same in
           let long : length (bytes_of B x) ≡ x.length = row_size B x I.good in
-          let Z = E.stops (end_state 0 L) [] (bytes_of B x) part (first-is ∙ ap (λ (q₀ : ℕ). read_from_lem q₀ []) state) (omega (arith, same.address_is, same.length_is)) (omega (arith, same.length_is))
+          let Z = E.stops (end_state 0 L) [] (bytes_of B x) part (first-is ∙ ap (λ (q₀ : ℕ). read_from q₀ []) state) (omega (arith, same.address_is, same.length_is)) (omega (arith, same.length_is))
           (le-leb count y.length (omega (arith, same.length_is))) in
           let most : k + 1 ≤ Z.0.index + 1 = omega (arith, leb-true count (Z.0.index + 1) Z.2.yes) in
           let least : Z.0.index ≤ k = ⊎_elim (λ (e : Z.0.index ≡ 0). omega arith) (λ e. omega (arith, leb-false count Z.0.index e)) Z.2.no in

@@ -3,7 +3,7 @@ use Rattle.std.specs.Prelude.{◌≡◌, ℕ, ◌+◌, ◌-◌, ◌<◌, ◌≤�
 use Rattle.std.specs.Option.{option_map}
 use Rattle.plain.specs.Lists.{at}
 use Rattle.plain.specs.Tokens.{end_state}
-use Rattle.lexer.specs.Reading.{read_from_lem}
+use Rattle.lexer.specs.Reading.{read_from}
 use Rattle.lexer.specs.declared.tokens.TokenRow.{TokenRow}
 use Rattle.slots.specs.Ghost.{rows}
 use Rattle.slots.specs.declared.records.Record.{Record}
@@ -29,7 +29,7 @@ kept m r rank i b = cond (r.state == 6 && r.unmet == rank) (record { index = i; 
 pub record MetIn (q : ℕ) (bs : List ℕ) (rank : ℕ) (m : Met) : Type 0 where
   pub within : m.index < length bs
   pub byte : m.byte ≡ slice_index bs m.index
-  pub place : (o : ℕ) → at (waited q o [] bs) ((read_from_lem q bs).unmet - rank) ≡ Some (o + m.index)
+  pub place : (o : ℕ) → at (waited q o [] bs) ((read_from q bs).unmet - rank) ≡ Some (o + m.index)
 
 -- the last open that waits at the offset p, with its byte
 abbrev pub last_open : List ℕ → ℕ → Option Other
@@ -43,8 +43,8 @@ pub record HeldIn (B T : List ℕ) (o : Option ℕ) (h : Held) : Type 0 where
   pub good : Good B h.row
   pub start : Follows front h.start
   pub some : 1 ≤ h.rank
-  pub own : h.rank ≤ (read_from_lem (end_state 0 front) (bytes_of B h.row)).unmet
-  pub same : o ≡ at (waited (end_state 0 front) (length front) [] (bytes_of B h.row)) ((read_from_lem (end_state 0 front) (bytes_of B h.row)).unmet - h.rank)
+  pub own : h.rank ≤ (read_from (end_state 0 front) (bytes_of B h.row)).unmet
+  pub same : o ≡ at (waited (end_state 0 front) (length front) [] (bytes_of B h.row)) ((read_from (end_state 0 front) (bytes_of B h.row)).unmet - h.rank)
 
 pub record OpenHeld {A : Type 0} (rs : List (Record PieceRow (TextValue A))) (tr : Tree) (x : Spot) (r : Result (Option Held) Unsound) : Type 0 where
   pub holds : (am : List ℕ → A) (B T : List ℕ) (X : TextAt am B rs tr T) (p : ℕ) → StandsAt B (rows X.t) p x
@@ -52,7 +52,7 @@ pub record OpenHeld {A : Type 0} (rs : List (Record PieceRow (TextValue A))) (tr
 
 module _ {S : Type 0} (bytes : S → List ℕ) (capacity reads : S → ℕ) where
   pub record OpenMet (s s' : S) (a n q rank : ℕ) (r : Result Met Unsound) : Type 0 where
-    pub meets : (bs : List ℕ) → bs ≡ take n (drop a (bytes s)) → a + n ≤ length (bytes s) → 1 ≤ rank → rank ≤ (read_from_lem q bs).unmet → (m : Met) × (r ≡ Ok m) × MetIn q bs rank m
+    pub meets : (bs : List ℕ) → bs ≡ take n (drop a (bytes s)) → a + n ≤ length (bytes s) → 1 ≤ rank → rank ≤ (read_from q bs).unmet → (m : Met) × (r ≡ Ok m) × MetIn q bs rank m
     pub reading : Reads bytes capacity reads 256 s s'
 
   pub record OpenTold {A : Type 0} (rs : List (Record PieceRow (TextValue A))) (tr : Tree) (x : Spot) (s s' : S) (r : Result (Option Other) Unsound) : Type 0 where

@@ -1,6 +1,6 @@
 -- From an open on to its close.
 use Rattle.std.specs.Prelude.{◌≡◌, ℕ, suc, ◌+◌, ◌<◌, ◌≤◌, ◌⊎◌, List, [], ◌∷◌, ◌++◌, length, drop, Some, None, Ok, Option, Result}
-use Rattle.lexer.specs.Reading.{read_from_lem}
+use Rattle.lexer.specs.Reading.{read_from}
 use Rattle.slots.specs.Ghost.{rows}
 use Rattle.slots.specs.Values.{flat}
 use Rattle.slots.specs.declared.records.Record.{Record}
@@ -22,9 +22,9 @@ pub record ReachIs (B Z : List ℕ) (h : Reach) : Type 0 where
   pub text : Z ≡ front ++ (bytes_of B h.row ++ back)
   pub good : Good B h.row
   pub offset : h.offset ≡ length front
-  pub before : h.before ≡ read_from_lem 6 front
-  pub quiet : (read_from_lem 6 front).strays ≡ 0
-  pub close : 1 ≤ (read_from_lem 6 (front ++ bytes_of B h.row)).strays
+  pub before : h.before ≡ read_from 6 front
+  pub quiet : (read_from 6 front).strays ≡ 0
+  pub close : 1 ≤ (read_from 6 (front ++ bytes_of B h.row)).strays
 
 -- It is this byte, which stands at offset i + length us.
 pub record StrayIs (Z : List ℕ) (i : ℕ) (y : Other) : Type 0 where
@@ -32,19 +32,19 @@ pub record StrayIs (Z : List ℕ) (i : ℕ) (y : Other) : Type 0 where
   pub vs : List ℕ
   pub text : Z ≡ us ++ (y.byte ∷ vs)
   pub offset : y.offset ≡ i + length us
-  pub quiet : (read_from_lem 6 us).strays ≡ 0
-  pub close : 1 ≤ (read_from_lem 6 (us ++ (y.byte ∷ []))).strays
+  pub quiet : (read_from 6 us).strays ≡ 0
+  pub close : 1 ≤ (read_from 6 (us ++ (y.byte ∷ []))).strays
 
 module _ {S : Type 0} (bytes : S → List ℕ) (capacity reads : S → ℕ) where
   -- the bytes after the open are those of the row `rest`, and then those of the rows after the one in which it lies
   pub record CloseReached {A : Type 0} (am : List ℕ → A) (rs : List (Record PieceRow (TextValue A))) (tr : Tree) (p : ℕ) (rest : PieceRow) (s s' : S) (r : Result (Option Reach) Unsound) : Type 0 where
     pub reaches : (T : List ℕ) (X : TextAt am (bytes s) rs tr T) (xs : List PieceRow) (x : PieceRow) (ys : List PieceRow) → rows X.t ≡ xs ++ (x ∷ ys) → sizes xs ≤ p → p < sizes xs + x.length
         → rest.length < x.length → rest.address + rest.length ≤ length (bytes s)
-        → ((r ≡ Ok None) × ((read_from_lem 6 (bytes_of (bytes s) rest ++ flat (bytes_of (bytes s)) ys)).strays ≡ 0))
+        → ((r ≡ Ok None) × ((read_from 6 (bytes_of (bytes s) rest ++ flat (bytes_of (bytes s)) ys)).strays ≡ 0))
         ⊎ ((h : Reach) × (r ≡ Ok (Some h)) × ReachIs (bytes s) (bytes_of (bytes s) rest ++ flat (bytes_of (bytes s)) ys) h)
     pub reading : Reads bytes capacity reads 256 s s'
 
   pub record CloseTold {A : Type 0} (am : List ℕ → A) (rs : List (Record PieceRow (TextValue A))) (tr : Tree) (p : ℕ) (x : Spot) (s s' : S) (r : Result (Option Other) Unsound) : Type 0 where
     pub tells : (T : List ℕ) (X : TextAt am (bytes s) rs tr T) → StandsAt (bytes s) (rows X.t) p x
-        → ((r ≡ Ok None) × ((read_from_lem 6 (drop (suc p) T)).strays ≡ 0)) ⊎ ((y : Other) × (r ≡ Ok (Some y)) × StrayIs (drop (suc p) T) (suc p) y)
+        → ((r ≡ Ok None) × ((read_from 6 (drop (suc p) T)).strays ≡ 0)) ⊎ ((y : Other) × (r ≡ Ok (Some y)) × StrayIs (drop (suc p) T) (suc p) y)
     pub reading : Reads bytes capacity reads 512 s s'

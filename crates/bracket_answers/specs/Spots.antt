@@ -6,7 +6,7 @@ use Rattle.plain.specs.declared.answers.Match.{Match}
 use Rattle.plain.specs.declared.answers.Match.TheVariants.{Fits, Crossed}
 use Rattle.plain.specs.declared.answers.Bracket.{Bracket}
 use Rattle.plain.specs.declared.answers.Bracket.TheVariants.{Paired, Alone}
-use Rattle.lexer.specs.Reading.{read_from_lem}
+use Rattle.lexer.specs.Reading.{read_from}
 use Rattle.slots.specs.Ghost.{rows}
 use Rattle.slots.specs.Values.{flat}
 use Rattle.slots.specs.declared.records.Record.{Record}
@@ -42,8 +42,8 @@ pub record StandsAt (B : List ℕ) (R : List PieceRow) (p : ℕ) (x : Spot) : Ty
   pub place : p ≡ length (flat (bytes_of B) xs) + x.stop.index
   pub within : x.stop.index < x.row.length
   pub byte : x.stop.byte ≡ slice_index (bytes_of B x.row) x.stop.index
-  pub before : x.stop.before ≡ read_from_lem (end_state 0 (flat (bytes_of B) xs)) (take x.stop.index (bytes_of B x.row))
-  pub after : x.stop.after ≡ read_from_lem (end_state 0 (flat (bytes_of B) xs)) (take (x.stop.index + 1) (bytes_of B x.row))
+  pub before : x.stop.before ≡ read_from (end_state 0 (flat (bytes_of B) xs)) (take x.stop.index (bytes_of B x.row))
+  pub after : x.stop.after ≡ read_from (end_state 0 (flat (bytes_of B) xs)) (take (x.stop.index + 1) (bytes_of B x.row))
 
 module _ {S : Type 0} (bytes : S → List ℕ) (capacity reads : S → ℕ) where
   pub record SpotFound {A : Type 0} (am : List ℕ → A) (rs : List (Record PieceRow (TextValue A))) (tr : Tree) (p : ℕ) (s s' : S) (r : Result Spot Unsound) : Type 0 where

@@ -11,7 +11,7 @@ use Rattle.plain.specs.declared.answers.Match.TheVariants.{Fits, Crossed}
 use Rattle.plain.specs.declared.answers.Bracket.{Bracket}
 use Rattle.plain.specs.declared.answers.Bracket.TheVariants.{Paired, Alone}
 use Rattle.measures.specs.Counts.{count_append}
-use Rattle.lexer.specs.Reading.{read_from_lem}
+use Rattle.lexer.specs.Reading.{read_from}
 use Rattle.bracket_questions.specs.Waiting.{waited}
 
 -- what is settled while a list is read
@@ -295,13 +295,13 @@ none_unmet s i os (b ∷ bs) =
 whole_list : (s : ℕ) (bs : List ℕ) → brackets_from s 0 [] bs ≡ settled_in s 0 [] bs ++ map unmet (waited s 0 [] bs)
 whole_list s bs = ap (brackets_from s 0 []) (sym (append-nil bs)) ∙ read_on s 0 [] bs []
 
-pub strays_are : (s i : ℕ) (bs : List ℕ) → count is_stray (settled_in s i [] bs) ≡ (read_from_lem s bs).strays
-unfolding read_from_lem
+pub strays_are : (s i : ℕ) (bs : List ℕ) → count is_stray (settled_in s i [] bs) ≡ (read_from s bs).strays
+unfolding read_from
 strays_are s i bs =
     omega (arith, (waited_number s i 0 [] [] bs refl).1, ap (count is_stray) (whole_list s bs), count_append is_stray (settled_in s 0 [] bs) (map unmet (waited s 0 [] bs)), no_strays (waited s 0 [] bs))
 
-pub unmet_are : (s i : ℕ) (bs : List ℕ) → length (waited s i [] bs) ≡ (read_from_lem s bs).unmet
-unfolding read_from_lem
+pub unmet_are : (s i : ℕ) (bs : List ℕ) → length (waited s i [] bs) ≡ (read_from s bs).unmet
+unfolding read_from
 unmet_are s i bs =
     omega (arith, (waited_number s i 0 [] [] bs refl).0, ap (count is_unmet) (whole_list s bs), count_append is_unmet (settled_in s 0 [] bs) (map unmet (waited s 0 [] bs)), none_unmet s 0 [] bs, all_unmet (waited s 0 [] bs))
 
@@ -354,18 +354,18 @@ at_drop (suc c) (o ∷ os) j = at_drop c os j ∙ ap (at (o ∷ os)) more
     more : suc (c + j) ≡ suc c + j
     more = omega arith
 
-pub waits_within : (s i : ℕ) (os bs : List ℕ) (k : ℕ) → k < (read_from_lem s bs).unmet → at (waited s i os bs) k ≡ at (waited s i [] bs) k
+pub waits_within : (s i : ℕ) (os bs : List ℕ) (k : ℕ) → k < (read_from s bs).unmet → at (waited s i os bs) k ≡ at (waited s i [] bs) k
 waits_within s i os bs k h =
     ap (λ (l : List ℕ). at l k) (waited_over s i [] os bs)
     ∙ at_left (waited s i [] bs) (drop (count is_stray (settled_in s i [] bs)) os) k (omega (arith, unmet_are s i bs))
 
-pub waits_before : (s i : ℕ) (os bs : List ℕ) (k : ℕ) → (read_from_lem s bs).unmet ≤ k → at (waited s i os bs) k ≡ at os ((k - (read_from_lem s bs).unmet) + (read_from_lem s bs).strays)
+pub waits_before : (s i : ℕ) (os bs : List ℕ) (k : ℕ) → (read_from s bs).unmet ≤ k → at (waited s i os bs) k ≡ at os ((k - (read_from s bs).unmet) + (read_from s bs).strays)
 waits_before s i os bs k h =
     let c = count is_stray (settled_in s i [] bs) in
-    let there : c + (k - (read_from_lem s bs).unmet) ≡ (k - (read_from_lem s bs).unmet) + (read_from_lem s bs).strays = omega (arith, strays_are s i bs) in
+    let there : c + (k - (read_from s bs).unmet) ≡ (k - (read_from s bs).unmet) + (read_from s bs).strays = omega (arith, strays_are s i bs) in
     ap (λ (l : List ℕ). at l k) (waited_over s i [] os bs)
-    ∙ at_right (waited s i [] bs) (drop c os) k (k - (read_from_lem s bs).unmet) (omega (arith, unmet_are s i bs))
-    ∙ at_drop c os (k - (read_from_lem s bs).unmet) ∙ ap (at os) there
+    ∙ at_right (waited s i [] bs) (drop c os) k (k - (read_from s bs).unmet) (omega (arith, unmet_are s i bs))
+    ∙ at_drop c os (k - (read_from s bs).unmet) ∙ ap (at os) there
 
 -- One byte more.
 pub waited_more : (s i : ℕ) (os bs : List ℕ) (b : ℕ) → waited s i os (bs ++ (b ∷ [])) ≡ waiting (step (end_state s bs) b).0 (i + length bs) (waited s i os bs)

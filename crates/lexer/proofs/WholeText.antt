@@ -9,7 +9,7 @@ use Rattle.measures.specs.Law.{heaviest}
 use Rattle.measures.specs.Totals.{totals}
 use Rattle.measures.specs.declared.totals.Totals.{Totals}
 use Rattle.measures.specs.Counts.{count_length}
-use Rattle.lexer.specs.Reading.{beginnings, read_from_lem, Whole}
+use Rattle.lexer.specs.Reading.{beginnings, read_from, Whole}
 use Rattle.lexer.specs.Summing.{summed}
 use Rattle.lexer.specs.declared.tokens.TokenRow.{TokenRow}
 
@@ -26,8 +26,8 @@ all_tokens : (bs : List ℕ) → beginnings 0 bs ≡ length (tokens bs)
 all_tokens [] = refl
 all_tokens (b ∷ bs) = sym (tokens_length (b ∷ bs) (step 0 b).0 1 0 1 bs)
 
-pub whole_read : (bs : List ℕ) → Whole bs (read_from_lem 0 bs)
-unfolding read_from_lem
+pub whole_read : (bs : List ℕ) → Whole bs (read_from 0 bs)
+unfolding read_from
 whole_read bs = record { end = refl; begun = all_tokens bs; stray = refl; left = refl }
 
 abbrev sums : ℕ → ℕ → ℕ → ℕ → ℕ → Summary

@@ -11,8 +11,8 @@ abbrev pub beginnings : ℕ → List ℕ → ℕ
 beginnings s [] = 0
 beginnings s (b ∷ bs) = cond (step s b).1 1 0 + beginnings (step s b).0 bs
 
-unfoldable pub read_from_lem : ℕ → List ℕ → TokenRow
-read_from_lem s bs = record {
+unfoldable pub read_from : ℕ → List ℕ → TokenRow
+read_from s bs = record {
   state = end_state s bs;
   tokens = beginnings s bs;
   strays = count is_stray (brackets_from s 0 [] bs);
@@ -20,7 +20,7 @@ read_from_lem s bs = record {
 }
 
 abbrev pub reading : List ℕ → List TokenRow
-reading bs = map (λ s. read_from_lem s bs) (range_with_len 0 13)
+reading bs = map (λ s. read_from s bs) (range_with_len 0 13)
 
 -- the row of state s, or of the last state; there are always 13
 abbrev pub row_at : List TokenRow → ℕ → TokenRow

@@ -6,7 +6,7 @@ use Rattle.measures.specs.Law.{heaviest}
 use Rattle.measures.specs.Counts.{one_at_most}
 use Rattle.measures.proofs.Folds.{folded_append, folded_through, folded_bound}
 use Rattle.measures.specs.Weights.{weights_bytes}
-use Rattle.lexer.specs.Reading.{read_from_lem}
+use Rattle.lexer.specs.Reading.{read_from}
 use Rattle.lexer.specs.declared.tokens.TokenRow.{TokenRow}
 use Rattle.lexer.specs.RowSteps.{make, make_eq, stepped, start, read_folded, read_more}
 
@@ -33,9 +33,9 @@ after_step v w b =
 after_start : (v : TokenRow) → after v (start v.state) ≡ v
 after_start v = make_eq refl (omega arith) (omega arith) (omega arith)
 
-pub after_read : (s : ℕ) (xs ys : List ℕ) → after (read_from_lem s xs) (read_from_lem (read_from_lem s xs).state ys) ≡ read_from_lem s (xs ++ ys)
+pub after_read : (s : ℕ) (xs ys : List ℕ) → after (read_from s xs) (read_from (read_from s xs).state ys) ≡ read_from s (xs ++ ys)
 after_read s xs ys =
-    let v = read_from_lem s xs in
+    let v = read_from s xs in
     ap (after v) (read_folded v.state ys)
     ∙ folded_through stepped (after v) (after_step v) (start v.state) ys
     ∙ ap (λ u. fold stepped u ys) (after_start v ∙ read_folded s xs)
@@ -47,25 +47,25 @@ brackets_step true more t w = omega arith
 brackets_step false true t w = omega arith
 brackets_step false false t w = omega arith
 
-pub tokens_bound : (s : ℕ) (bs : List ℕ) → (read_from_lem s bs).tokens ≤ length bs
+pub tokens_bound : (s : ℕ) (bs : List ℕ) → (read_from s bs).tokens ≤ length bs
 tokens_bound s bs =
     let le = folded_bound stepped (λ _. 1) (λ r. r.tokens) (λ r b. omega (arith, one_at_most (step r.state b).1)) (start s) bs in
     omega (arith, le, weights_bytes bs, ap (λ (r : TokenRow). r.tokens) (read_folded s bs))
 
-pub brackets_bound : (s : ℕ) (bs : List ℕ) → (read_from_lem s bs).strays + (read_from_lem s bs).unmet ≤ length bs
+pub brackets_bound : (s : ℕ) (bs : List ℕ) → (read_from s bs).strays + (read_from s bs).unmet ≤ length bs
 brackets_bound s bs =
     let le = folded_bound stepped (λ _. 1) (λ r. r.strays + r.unmet) (λ r b. brackets_step ((step r.state b).0 == 7) ((step r.state b).0 == 6) r.strays r.unmet) (start s) bs in
     omega (arith, le, weights_bytes bs, ap (λ (r : TokenRow). r.strays + r.unmet) (read_folded s bs))
 
 -- what the code makes, in words of 32 bits that stay at the largest, is exact within the limit
-pub and_byte : (v : TokenRow) (b s : ℕ) (bs : List ℕ) (n : ℕ) (f : Bool) (t a u : ℕ) → length bs < heaviest → v ≡ read_from_lem s bs
+pub and_byte : (v : TokenRow) (b s : ℕ) (bs : List ℕ) (n : ℕ) (f : Bool) (t a u : ℕ) → length bs < heaviest → v ≡ read_from s bs
     → n ≡ (step v.state b).0 → f ≡ (step v.state b).1
     → (v.tokens + cond f 1 0 ≤ 4294967295 → t ≡ v.tokens + cond f 1 0)
     → (v.strays + cond (n == 7) (1 - v.unmet) 0 ≤ 4294967295 → a ≡ v.strays + cond (n == 7) (1 - v.unmet) 0)
     → (cond (n == 7) (v.unmet - 1) (cond (n == 6) (v.unmet + 1) v.unmet) ≤ 4294967295 → u ≡ cond (n == 7) (v.unmet - 1) (cond (n == 6) (v.unmet + 1) v.unmet))
-    → make n t a u ≡ read_from_lem s (bs ++ (b ∷ []))
+    → make n t a u ≡ read_from s (bs ++ (b ∷ []))
 and_byte v b s bs n f t a u light e nx fx tx ax ux =
-    let r = read_from_lem s (bs ++ (b ∷ [])) in
+    let r = read_from s (bs ++ (b ∷ [])) in
     let law : stepped v b ≡ r = ap (λ w. stepped w b) e ∙ sym (read_more s b bs) in
     let z : make n (v.tokens + cond f 1 0) (v.strays + cond (n == 7) (1 - v.unmet) 0) (cond (n == 7) (v.unmet - 1) (cond (n == 6) (v.unmet + 1) v.unmet)) ≡ r = rw (nx, fx) law in
     let T = tokens_bound s (bs ++ (b ∷ [])) in
@@ -77,14 +77,14 @@ and_byte v b s bs n f t a u light e nx fx tx ax ux =
     (ux (omega (arith, ap (λ (q : TokenRow). q.unmet) z)))
     ∙ z
 
-pub and_row_lem : (v w : TokenRow) (s : ℕ) (xs ys : List ℕ) (t a u x y : ℕ) → length (xs ++ ys) ≤ heaviest → v ≡ read_from_lem s xs → w ≡ read_from_lem v.state ys
+pub and_row_lem : (v w : TokenRow) (s : ℕ) (xs ys : List ℕ) (t a u x y : ℕ) → length (xs ++ ys) ≤ heaviest → v ≡ read_from s xs → w ≡ read_from v.state ys
     → t ≡ min (v.tokens + w.tokens) 4294967295 → x ≡ w.strays - v.unmet → a ≡ min (v.strays + x) 4294967295 → y ≡ v.unmet - w.strays → u ≡ min (w.unmet + y) 4294967295
-    → make w.state t a u ≡ read_from_lem s (xs ++ ys)
+    → make w.state t a u ≡ read_from s (xs ++ ys)
 and_row_lem v w s xs ys t a u x y light e f tx xx ax yx ux =
-    let law : after v w ≡ read_from_lem s (xs ++ ys) = ap (after v) f ∙ ap (λ (r : TokenRow). after r (read_from_lem r.state ys)) e ∙ after_read s xs ys in
+    let law : after v w ≡ read_from s (xs ++ ys) = ap (after v) f ∙ ap (λ (r : TokenRow). after r (read_from r.state ys)) e ∙ after_read s xs ys in
     let T = tokens_bound s (xs ++ ys) in
     let B = brackets_bound s (xs ++ ys) in
-    let l1 : v.tokens + w.tokens ≡ (read_from_lem s (xs ++ ys)).tokens = ap (λ (r : TokenRow). r.tokens) law in
-    let l2 : v.strays + (w.strays - v.unmet) ≡ (read_from_lem s (xs ++ ys)).strays = ap (λ (r : TokenRow). r.strays) law in
-    let l3 : w.unmet + (v.unmet - w.strays) ≡ (read_from_lem s (xs ++ ys)).unmet = ap (λ (r : TokenRow). r.unmet) law in
+    let l1 : v.tokens + w.tokens ≡ (read_from s (xs ++ ys)).tokens = ap (λ (r : TokenRow). r.tokens) law in
+    let l2 : v.strays + (w.strays - v.unmet) ≡ (read_from s (xs ++ ys)).strays = ap (λ (r : TokenRow). r.strays) law in
+    let l3 : w.unmet + (v.unmet - w.strays) ≡ (read_from s (xs ++ ys)).unmet = ap (λ (r : TokenRow). r.unmet) law in
     make_eq {a = w.state} {b = t} {c = a} {d = u} {a' = w.state} refl (omega arith) (omega arith) (omega arith) ∙ law

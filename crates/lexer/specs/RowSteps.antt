@@ -8,7 +8,7 @@ use Rattle.plain.specs.Tokens.{step, end_state}
 use Rattle.plain.specs.Brackets.{unmet, brackets_from, is_stray, is_unmet, waiting, closed, settled}
 use Rattle.measures.specs.Counts.{count_append}
 use Rattle.measures.proofs.Folds.{folded_append}
-use Rattle.lexer.specs.Reading.{beginnings, read_from_lem}
+use Rattle.lexer.specs.Reading.{beginnings, read_from}
 use Rattle.lexer.specs.declared.tokens.TokenRow.{TokenRow}
 
 abbrev pub make : ℕ → ℕ → ℕ → ℕ → TokenRow
@@ -60,15 +60,15 @@ waiting_length n i os = by (n == 7) (n == 6) os (λ p q. omega (arith, eqb-true 
     by false true os apart = omega arith
     by false false os apart = refl
 
-read_from : (s t a i : ℕ) (os bs : List ℕ) → fold stepped (make s t a (length os)) bs ≡ make (end_state s bs) (t + beginnings s bs) (a + count is_stray (brackets_from s i os bs)) (count is_unmet (brackets_from s i os bs))
-read_from s t a i os [] = make_eq refl (omega arith) (omega (arith, no_strays os)) (sym (all_unmet os))
-read_from s t a i os (b ∷ bs) =
+read_from_lem : (s t a i : ℕ) (os bs : List ℕ) → fold stepped (make s t a (length os)) bs ≡ make (end_state s bs) (t + beginnings s bs) (a + count is_stray (brackets_from s i os bs)) (count is_unmet (brackets_from s i os bs))
+read_from_lem s t a i os [] = make_eq refl (omega arith) (omega (arith, no_strays os)) (sym (all_unmet os))
+read_from_lem s t a i os (b ∷ bs) =
     let n = (step s b).0 in
     let t' = t + cond (step s b).1 1 0 in
     let a' = a + cond (n == 7) (1 - length os) 0 in
     let rest = brackets_from n (suc i) (waiting n i os) bs in
     ap (λ u. fold stepped (make n t' a' u) bs) (waiting_length n i os)
-    ∙ read_from n t' a' (suc i) (waiting n i os) bs
+    ∙ read_from_lem n t' a' (suc i) (waiting n i os) bs
     ∙ make_eq refl (omega arith)
     (omega (arith, count_append is_stray (settled n i os) rest, settled_strays n i os))
     (omega (arith, count_append is_unmet (settled n i os) rest, settled_unmet n i os))
@@ -76,12 +76,12 @@ read_from s t a i os (b ∷ bs) =
 abbrev pub start : ℕ → TokenRow
 start s = make s 0 0 0
 
-pub read_folded : (s : ℕ) (bs : List ℕ) → read_from_lem s bs ≡ fold stepped (start s) bs
-unfolding read_from_lem
-read_folded s bs = sym (read_from s 0 0 0 [] bs ∙ make_eq refl (omega arith) (omega arith) refl)
+pub read_folded : (s : ℕ) (bs : List ℕ) → read_from s bs ≡ fold stepped (start s) bs
+unfolding read_from
+read_folded s bs = sym (read_from_lem s 0 0 0 [] bs ∙ make_eq refl (omega arith) (omega arith) refl)
 
-pub read_none : (s : ℕ) → read_from_lem s [] ≡ start s
+pub read_none : (s : ℕ) → read_from s [] ≡ start s
 read_none s = read_folded s []
 
-pub read_more : (s b : ℕ) (bs : List ℕ) → read_from_lem s (bs ++ (b ∷ [])) ≡ stepped (read_from_lem s bs) b
+pub read_more : (s b : ℕ) (bs : List ℕ) → read_from s (bs ++ (b ∷ [])) ≡ stepped (read_from s bs) b
 read_more s b bs = read_folded s (bs ++ (b ∷ [])) ∙ folded_append stepped (start s) bs (b ∷ []) ∙ ap (λ v. stepped v b) (sym (read_folded s bs))

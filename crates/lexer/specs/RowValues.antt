@@ -2,23 +2,23 @@
 use Rattle.std.specs.Prelude.{◌≡◌, ℕ, ◌+◌, ◌<◌, ◌≤◌, min, List, ◌++◌, length, get_or, ◌≢◌, slice_index_or, slice_set}
 use Rattle.std.proofs.Common.{sym, ap, subst, ◌∙◌, arith, below_more, get_or-set_same, get_or-set_other}
 use Rattle.std.proofs.lemmas.List.FromFn.{get_or-map-range_with_len, fill_by_all}
-use Rattle.lexer.specs.Reading.{read_from_lem, reading, row_at}
+use Rattle.lexer.specs.Reading.{read_from, reading, row_at}
 use Rattle.lexer.specs.declared.tokens.TokenRow.{TokenRow}
 use Rattle.lexer.specs.RowSteps.{start}
 use Rattle.lexer.specs.States.{state_bound}
 use Rattle.lexer.specs.RowJoins.{after_read}
 
-pub row_read : (bs : List ℕ) (s : ℕ) (d : TokenRow) → s < 13 → slice_index_or (reading bs) s d ≡ read_from_lem s bs
-row_read bs s d h = get_or-map-range_with_len (λ s. read_from_lem s bs) 0 13 s s d h (omega arith)
+pub row_read : (bs : List ℕ) (s : ℕ) (d : TokenRow) → s < 13 → slice_index_or (reading bs) s d ≡ read_from s bs
+row_read bs s d h = get_or-map-range_with_len (λ s. read_from s bs) 0 13 s s d h (omega arith)
 
-pub row_at_lem : (v : List TokenRow) (bs : List ℕ) (s : ℕ) → s ≤ 12 → v ≡ reading bs → row_at v s ≡ read_from_lem s bs
+pub row_at_lem : (v : List TokenRow) (bs : List ℕ) (s : ℕ) → s ≤ 12 → v ≡ reading bs → row_at v s ≡ read_from s bs
 row_at_lem v bs s h e =
     ap (λ w. row_at w s) e ∙ ap (λ n. get_or (reading bs) n (start 0)) (min_is s h) ∙ row_read bs s (start 0) (omega arith)
   where
     min_is : (s : ℕ) → s ≤ 12 → min s 12 ≡ s
     min_is s h = omega arith
 
-pub row_last : (bs : List ℕ) (s : ℕ) → row_at (reading bs) s ≡ read_from_lem (min s 12) bs
+pub row_last : (bs : List ℕ) (s : ℕ) → row_at (reading bs) s ≡ read_from (min s 12) bs
 row_last bs s = row_read bs (min s 12) (start 0) (omega arith)
 
 -- reading on begins no fewer tokens and leaves no fewer strays
@@ -31,7 +31,7 @@ strays_grow s xs ys =
     omega (arith, ap (λ (r : TokenRow). r.strays) (after_read (min s 12) xs ys), ap (λ (r : TokenRow). r.strays) (row_last xs s), ap (λ (r : TokenRow). r.strays) (row_last (xs ++ ys) s))
 
 -- the row at the state where another row ends
-pub row_next : (v : List TokenRow) (s : ℕ) (xs ys : List ℕ) (r : TokenRow) → s ≤ 12 → r ≡ read_from_lem s xs → v ≡ reading ys → row_at v r.state ≡ read_from_lem r.state ys
+pub row_next : (v : List TokenRow) (s : ℕ) (xs ys : List ℕ) (r : TokenRow) → s ≤ 12 → r ≡ read_from s xs → v ≡ reading ys → row_at v r.state ≡ read_from r.state ys
 row_next v s xs ys r h e f = row_at_lem v ys r.state (omega (arith, state_bound s xs h, ap (λ (q : TokenRow). q.state) e)) f
 
 -- a loop that writes the rows one after another
@@ -53,5 +53,5 @@ rows_after r rows old i kept k h = get_or-set_other rows i k r (start 0) (apart 
     apart : (k : ℕ) → i + 1 ≤ k → k ≢ i
     apart k h e = omega arith
 
-pub rows_all : (bs : List ℕ) (rows : List TokenRow) → length rows ≡ 13 → ((k : ℕ) → k < 13 → slice_index_or rows k (start 0) ≡ read_from_lem k bs) → rows ≡ reading bs
-rows_all bs rows len each = fill_by_all (λ s. read_from_lem s bs) rows 13 (start 0) len each
+pub rows_all : (bs : List ℕ) (rows : List TokenRow) → length rows ≡ 13 → ((k : ℕ) → k < 13 → slice_index_or rows k (start 0) ≡ read_from k bs) → rows ≡ reading bs
+rows_all bs rows len each = fill_by_all (λ s. read_from s bs) rows 13 (start 0) len each

@@ -3,7 +3,7 @@ use Rattle.std.specs.Prelude.{ℕ, ◌≤◌, Bool, true, false, cond, ◌&&◌,
 use Rattle.std.proofs.Common.{arith}
 use Rattle.plain.specs.Lists.{among}
 use Rattle.plain.specs.Tokens.{letter, digit, white, feed, quote, escape, hash, left, right, symbol, stays, begun, step, end_state}
-use Rattle.lexer.specs.Reading.{read_from_lem}
+use Rattle.lexer.specs.Reading.{read_from}
 
 low : (c : Bool) (m n : ℕ) → m ≤ 12 → n ≤ 12 → cond c m n ≤ 12
 low true m n h k = h
@@ -25,6 +25,6 @@ end_bound : (s : ℕ) (bs : List ℕ) → s ≤ 12 → end_state s bs ≤ 12
 end_bound s [] h = h
 end_bound s (b ∷ bs) h = end_bound (step s b).0 bs (step_bound s b h)
 
-pub state_bound : (s : ℕ) (bs : List ℕ) → s ≤ 12 → (read_from_lem s bs).state ≤ 12
-unfolding read_from_lem
+pub state_bound : (s : ℕ) (bs : List ℕ) → s ≤ 12 → (read_from s bs).state ≤ 12
+unfolding read_from
 state_bound s bs h = end_bound s bs h

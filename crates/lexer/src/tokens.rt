@@ -1,7 +1,7 @@
 // The token measure: a list of bytes may begin in any state, so it is read from each.
 ghost use Rattle.std.specs.Prelude.{◌≡◌, ℕ, ◌<◌, ◌≤◌, List, [], ◌∷◌, ◌++◌, length, Decides};
 ghost use Rattle.measures.specs.Law.{heaviest};
-ghost use Rattle.lexer.specs.Reading.{read_from_lem, reading, row_at, Whole};
+ghost use Rattle.lexer.specs.Reading.{read_from, reading, row_at, Whole};
 
 use crate::reading::step;
 use measures::Measure;
@@ -21,7 +21,7 @@ pub type Rows = [TokenRow; 13];
 
 impl TokenRow {
     pub fn start(state: u8) -> TokenRow
-        ensures { result ≡ read_from_lem state [] }
+        ensures { result ≡ read_from state [] }
     {
         TokenRow {
             state,
@@ -33,7 +33,7 @@ impl TokenRow {
 
     // The list and one byte more.
     pub fn and_byte(&self, byte: u8) -> TokenRow
-        ensures { (s : ℕ) (bs : List ℕ) → length bs < heaviest → self.now ≡ read_from_lem s bs → result ≡ read_from_lem s (bs ++ (byte ∷ [])) }
+        ensures { (s : ℕ) (bs : List ℕ) → length bs < heaviest → self.now ≡ read_from s bs → result ≡ read_from s (bs ++ (byte ∷ [])) }
     {
         let next = step(self.state, byte);
         let (strays, unmet) = match next.state {
@@ -52,7 +52,7 @@ impl TokenRow {
 
     // The list and a second one, whose row is that of the state at the end of the first.
     fn and_row(&self, row: &TokenRow) -> TokenRow
-        ensures { (s : ℕ) (xs ys : List ℕ) → length (xs ++ ys) ≤ heaviest → self.now ≡ read_from_lem s xs → row.now ≡ read_from_lem self.now.state ys → result ≡ read_from_lem s (xs ++ ys) }
+        ensures { (s : ℕ) (xs ys : List ℕ) → length (xs ++ ys) ≤ heaviest → self.now ≡ read_from s xs → row.now ≡ read_from self.now.state ys → result ≡ read_from s (xs ++ ys) }
     {
         // Closes of the second list meet opens of the first.
         let strays = row.strays.saturating_sub(self.unmet);

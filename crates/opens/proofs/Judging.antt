@@ -4,7 +4,7 @@ use Rattle.std.proofs.lemmas.List.{take_all, take-append-le}
 use Rattle.std.proofs.lemmas.Bool.{eq-eqb, both_ways, cases_lt}
 use Rattle.plain.specs.Lists.{at}
 use Rattle.plain.specs.Tokens.{end_state}
-use Rattle.lexer.specs.Reading.{read_from_lem}
+use Rattle.lexer.specs.Reading.{read_from}
 use Rattle.lexer.specs.RowJoins.{brackets_bound}
 use Rattle.slots.specs.Ghost.{none}
 use Rattle.slots.specs.Values.{flat, mean, value_in}
@@ -67,19 +67,19 @@ module _ {items : PieceRow → List ℕ} {limit : ℕ} (a : Aim items limit) whe
         ∙ ap (λ (i : ℕ). at (waited (end_state 0 w) i (waited 0 0 [] w) bs) k) from-here
 
     -- rows that end by the limit, whose opens are all met
-    pub stands_pass : (read_from_lem (end_state 0 w) bs).unmet ≤ k → Stands a P ((k - (read_from_lem (end_state 0 w) bs).unmet) + (read_from_lem (end_state 0 w) bs).strays)
+    pub stands_pass : (read_from (end_state 0 w) bs).unmet ≤ k → Stands a P ((k - (read_from (end_state 0 w) bs).unmet) + (read_from (end_state 0 w) bs).strays)
     stands_pass met = record {
       same = in_two ∙ waits_before (end_state 0 w) (length w) (waited 0 0 [] w) bs k met
-          ∙ ap (λ (l : List ℕ). at (waited 0 0 [] l) ((k - (read_from_lem (end_state 0 w) bs).unmet) + (read_from_lem (end_state 0 w) bs).strays)) (sym front_counts);
+          ∙ ap (λ (l : List ℕ). at (waited 0 0 [] l) ((k - (read_from (end_state 0 w) bs).unmet) + (read_from (end_state 0 w) bs).strays)) (sym front_counts);
       light = omega (arith, s.light, ap length all_count, ap length front_counts, length-append w bs, brackets_bound (end_state 0 w) bs);
     }
 
     -- and rows that hold the open
-    pub stands_in : k < (read_from_lem (end_state 0 w) bs).unmet → a.sought ≡ at (waited (end_state 0 w) (length w) [] bs) k
+    pub stands_in : k < (read_from (end_state 0 w) bs).unmet → a.sought ≡ at (waited (end_state 0 w) (length w) [] bs) k
     stands_in has = in_two ∙ waits_within (end_state 0 w) (length w) (waited 0 0 [] w) bs k has
 
     -- it does not also lie before them
-    pub not_before : (j : ℕ) → k < (read_from_lem (end_state 0 w) bs).unmet → Stands a P j → ⊥
+    pub not_before : (j : ℕ) → k < (read_from (end_state 0 w) bs).unmet → Stands a P j → ⊥
     not_before j has f =
         let there = some_at (waited (end_state 0 w) (length w) [] bs) k (omega (arith, unmet_are (end_state 0 w) (length w) bs)) in
         let o = there.0 in
@@ -160,6 +160,6 @@ module _ {A : Type 0} {rs : List (Record PieceRow (TextValue A))} {i : ℕ} {x :
           let q = the_part am a P T gv pv (rd ∙ e) pl in
           let ends : length (flat items (P ++ T)) ≤ limit = omega (arith, ending a P T q) in
           let S = stands_pass a P T k ends (standing a (P ++ T) got is f) (omega (arith, q.unmet)) in
-          let there : (k - (read_from_lem (end_state 0 (flat items P)) (flat items T)).unmet) + (read_from_lem (end_state 0 (flat items P)) (flat items T)).strays ≡ j = omega (arith, q.unmet, q.strays, S.light) in
+          let there : (k - (read_from (end_state 0 (flat items P)) (flat items T)).unmet) + (read_from (end_state 0 (flat items P)) (flat items T)).strays ≡ j = omega (arith, q.unmet, q.strays, S.light) in
           inl (Before j, refl, inl (j, refl, subst (Stands a P) there S));
     }

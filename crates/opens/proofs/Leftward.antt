@@ -4,7 +4,7 @@ use Rattle.std.proofs.lemmas.List.{take_all, take-append-le}
 use Rattle.plain.specs.Lists.{at}
 use Rattle.plain.specs.Tokens.{end_state}
 use Rattle.measures.specs.Law.{heaviest}
-use Rattle.lexer.specs.Reading.{read_from_lem}
+use Rattle.lexer.specs.Reading.{read_from}
 use Rattle.slots.specs.Ghost.{Twig, leaf, two, three, Arm, Finger, none, root, digit_of, tree_of, rows_twig, rows_arm, rows_part, rows, levels, FitTwig, FitArm, FitPart, Fit}
 use Rattle.slots.specs.Holds.{most}
 use Rattle.slots.specs.Sides.{peeled}
@@ -147,8 +147,8 @@ module _ {A : Type 0} {rs : List (Record PieceRow (TextValue A))} {height i : �
                 let en : Entered a P (rows_twig u) k (Some rank) = subst (λ (m : Option ℕ). Entered a P (rows_twig u) k m) some S.1 in
                 let bs-is : flat items (rows_twig u) ≡ items row = ap (flat items) T-is ∙ append-nil (items row) in
                 let s = end_state 0 (flat items P) in
-                let same-unmet : (read_from_lem s (flat items (rows_twig u))).unmet ≡ (read_from_lem s (items row)).unmet = ap (λ (q : List ℕ). (read_from_lem s q).unmet) bs-is in
-                let place : k ≡ (read_from_lem s (items row)).unmet - rank = omega (arith, en.2, same-unmet) in
+                let same-unmet : (read_from s (flat items (rows_twig u))).unmet ≡ (read_from s (items row)).unmet = ap (λ (q : List ℕ). (read_from s q).unmet) bs-is in
+                let place : k ≡ (read_from s (items row)).unmet - rank = omega (arith, en.2, same-unmet) in
                 inr (
                   record { row = row; start = x; rank = rank },
                   refl,

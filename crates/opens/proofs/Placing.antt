@@ -2,7 +2,7 @@
 use Rattle.std.proofs.Common.{◌≡◌, ℕ, ◌+◌, ◌≤◌, Bool, List, [], ◌++◌, length, get_or, Some, None, Ok, Err, Result, sym, refl, ap, ◌∙◌, subst, append_assoc, append-nil, arith, length-append}
 use Rattle.plain.specs.Tokens.{end_state}
 use Rattle.measures.specs.Law.{heaviest}
-use Rattle.lexer.specs.Reading.{read_from_lem, reading, row_at}
+use Rattle.lexer.specs.Reading.{read_from, reading, row_at}
 use Rattle.lexer.specs.declared.tokens.TokenRow.{TokenRow}
 use Rattle.lexer.specs.RowValues.{row_at_lem}
 use Rattle.lexer.specs.States.{state_bound}
@@ -31,21 +31,21 @@ use Rattle.opens.specs.declared.parts.Part.{Part}
 -- What is known of a part whose bytes bs follow w.
 pub record PartIs (w bs : List ℕ) (p : Part) : Type 0 where
   pub end : Follows (w ++ bs) p.end
-  pub strays : p.strays ≡ (read_from_lem (end_state 0 w) bs).strays
-  pub unmet : p.unmet ≡ (read_from_lem (end_state 0 w) bs).unmet
+  pub strays : p.strays ≡ (read_from (end_state 0 w) bs).strays
+  pub unmet : p.unmet ≡ (read_from (end_state 0 w) bs).unmet
 
 state_low : (w : List ℕ) → end_state 0 w ≤ 12
-unfolding read_from_lem
+unfolding read_from
 state_low w = state_bound 0 w (omega arith)
 
-end_read : (s : ℕ) (bs : List ℕ) → (read_from_lem s bs).state ≡ end_state s bs
-unfolding read_from_lem
+end_read : (s : ℕ) (bs : List ℕ) → (read_from s bs).state ≡ end_state s bs
+unfolding read_from
 end_read s bs = refl
 
 pub part_is : {A : Type 0} (am : List ℕ → A) (w bs : List ℕ) (x : Start) {v : TextValue A} {p : Part} → v ≡ text_means am bs → p ≡ part_from_slot v x → Follows w x → length (w ++ bs) ≤ heaviest → PartIs w bs p
 part_is am w bs x {v} {p} e is f light =
     let here : p ≡ part_from_slot (text_means am bs) x = is ∙ ap (λ (q : TextValue _). part_from_slot q x) e in
-    let row : row_at (reading bs) x.state ≡ read_from_lem (end_state 0 w) bs =
+    let row : row_at (reading bs) x.state ≡ read_from (end_state 0 w) bs =
     ap (row_at (reading bs)) f.state ∙ row_at_lem (reading bs) bs (end_state 0 w) (state_low w) refl in record {
       end = record {
         offset = omega (arith, ap (λ (q : Part). q.end.offset) here, f.offset, length-append w bs);

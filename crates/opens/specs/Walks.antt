@@ -3,7 +3,7 @@ use Rattle.std.specs.Prelude.{◌≡◌, ℕ, ◌+◌, ◌-◌, ◌<◌, ◌≤�
 use Rattle.plain.specs.Lists.{at}
 use Rattle.plain.specs.Tokens.{end_state}
 use Rattle.measures.specs.Law.{heaviest}
-use Rattle.lexer.specs.Reading.{read_from_lem}
+use Rattle.lexer.specs.Reading.{read_from}
 use Rattle.slots.specs.Ghost.{Twig, Arm, Finger, none, root, digit_of, tree_of, rows_twig, rows_arm, rows, levels, FitTwig, FitArm, Fit}
 use Rattle.slots.specs.Holds.{most}
 use Rattle.slots.specs.Values.{flat, mean, value_in}
@@ -54,9 +54,9 @@ module _ {items : PieceRow → List ℕ} {limit : ℕ} (a : Aim items limit) whe
     pub text : a.all ≡ xs ++ (h.row ∷ ys)
     pub start : Follows (flat items xs) h.start
     pub some : 1 ≤ h.rank
-    pub own : h.rank ≤ (read_from_lem (end_state 0 (flat items xs)) (items h.row)).unmet
+    pub own : h.rank ≤ (read_from (end_state 0 (flat items xs)) (items h.row)).unmet
     pub same : a.sought ≡ at (waited (end_state 0 (flat items xs)) (length (flat items xs)) [] (items h.row))
-        ((read_from_lem (end_state 0 (flat items xs)) (items h.row)).unmet - h.rank)
+        ((read_from (end_state 0 (flat items xs)) (items h.row)).unmet - h.rank)
 
   -- what was found from the end of the text back to the end of the rows P
   abbrev pub Heads : List PieceRow → Result Back Unsound → Type 0
@@ -72,7 +72,7 @@ module _ {items : PieceRow → List ℕ} {limit : ℕ} (a : Aim items limit) whe
   -- why the rows T after P must be entered
   abbrev pub Entered : List PieceRow → List PieceRow → ℕ → Option ℕ → Type 0
   Entered P T k None = (length (flat items P) < limit) × (limit < length (flat items (P ++ T)))
-  Entered P T k (Some n) = (length (flat items (P ++ T)) ≤ limit) × (1 ≤ n) × (n + k ≡ (read_from_lem (end_state 0 (flat items P)) (flat items T)).unmet)
+  Entered P T k (Some n) = (length (flat items (P ++ T)) ≤ limit) × (1 ≤ n) × (n + k ≡ (read_from (end_state 0 (flat items P)) (flat items T)).unmet)
 
   abbrev pub Visits : List PieceRow → List PieceRow → Result Visit Unsound → Type 0
   Visits P T r = ((b : Back) × (r ≡ Ok (Past b)) × Heads P (Ok b)) ⊎ ((k : ℕ) × (n : Option ℕ) × (r ≡ Ok (Into k n)) × Stands (P ++ T) k × Entered P T k n)

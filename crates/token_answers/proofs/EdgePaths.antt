@@ -4,7 +4,7 @@ use Rattle.std.proofs.lemmas.Bool.{leb-true, leb-false, le-leb, ltb-false, both_
 use Rattle.plain.specs.Tokens.{step, end_state}
 use Rattle.measures.specs.Law.{heaviest}
 use Rattle.measures.specs.declared.totals.Totals.{Totals}
-use Rattle.lexer.specs.Reading.{beginnings, read_from_lem, row_at}
+use Rattle.lexer.specs.Reading.{beginnings, read_from, row_at}
 use Rattle.lexer.specs.declared.tokens.TokenRow.{TokenRow}
 use Rattle.slots.specs.Values.{flat}
 use Rattle.slots.specs.declared.records.Record.{Record}
@@ -29,15 +29,15 @@ use Rattle.token_questions.specs.declared.scan.Stop.{Stop}
 use Rattle.token_questions.proofs.Counted.{begun_more}
 
 -- the fields of a row
-tokens_read : (q : ℕ) (bs : List ℕ) → (read_from_lem q bs).tokens ≡ beginnings q bs
-unfolding read_from_lem
+tokens_read : (q : ℕ) (bs : List ℕ) → (read_from q bs).tokens ≡ beginnings q bs
+unfolding read_from
 tokens_read q bs = refl
 
-state_read : (q : ℕ) (bs : List ℕ) → (read_from_lem q bs).state ≡ end_state q bs
-unfolding read_from_lem
+state_read : (q : ℕ) (bs : List ℕ) → (read_from q bs).state ≡ end_state q bs
+unfolding read_from
 state_read q bs = refl
 
-row_read : {A : Type 0} (am : List ℕ → A) (L : List ℕ) {w : TextValue A} → w ≡ text_means am L → row_at w.left.right 0 ≡ read_from_lem 0 L
+row_read : {A : Type 0} (am : List ℕ → A) (L : List ℕ) {w : TextValue A} → w ≡ text_means am L → row_at w.left.right 0 ≡ read_from 0 L
 row_read {A} am L e = ap (λ (v : TextValue A). row_at v.left.right 0) e
 
 -- a byte begins at most one token
@@ -99,7 +99,7 @@ scanned E = record { few = E.few; same_bytes = E.same_bytes; same_capacity = E.s
 -- The piece of a row is read on from what stands before it.
 module _ {A S : Type 0} {am : List ℕ → A} {says : TextValue A → Bool} {bytes : S → List ℕ} {capacity reads : S → ℕ} {R : List PieceRow} {T : List ℕ} {w : TextValue A} {x : PieceRow} {s s' : S} {y : Piece} {u : TokenRow} {goal : Goal} {rj : Result Stop Unsound}
     (I : Inside am says (bytes s) R T w x) (same : SamePiece x y) (u-is : u ≡ row_at w.left.right 0) (E : Scanned bytes capacity reads s s' y.address y.length u goal rj) where
-  stop_inside : length T ≤ heaviest → reached goal y.length (read_from_lem 0 (flat (bytes_of (bytes s)) I.xs ++ bytes_of (bytes s) x)) ≡ true
+  stop_inside : length T ≤ heaviest → reached goal y.length (read_from 0 (flat (bytes_of (bytes s)) I.xs ++ bytes_of (bytes s) x)) ≡ true
       → (z : Stop) × (rj ≡ Ok z) × Stops 0 (flat (bytes_of (bytes s)) I.xs) (bytes_of (bytes s) x) goal z
   stop_inside light reaches =
       let B : List ℕ = bytes s in
@@ -115,8 +115,8 @@ module _ {A S : Type 0} {am : List ℕ → A} {says : TextValue A → Bool} {byt
 abbrev pub begun_to : {A : Type 0} → ℕ → TextValue A → Bool
 begun_to k v = leb k (row_at v.left.right 0).tokens
 
-few_begun : (k : ℕ) (L : List ℕ) → 1 ≤ k → (L ≡ []) ⊎ (leb k (read_from_lem 0 L).tokens ≡ false) → beginnings 0 L < k
-few_begun k L some = ⊎_elim (λ (e : L ≡ []). omega (arith, ap (beginnings 0) e)) (λ e. omega (arith, leb-false k (read_from_lem 0 L).tokens e, tokens_read 0 L))
+few_begun : (k : ℕ) (L : List ℕ) → 1 ≤ k → (L ≡ []) ⊎ (leb k (read_from 0 L).tokens ≡ false) → beginnings 0 L < k
+few_begun k L some = ⊎_elim (λ (e : L ≡ []). omega (arith, ap (beginnings 0) e)) (λ e. omega (arith, leb-false k (read_from 0 L).tokens e, tokens_read 0 L))
 
 -- where a token begins
 module _ {A S : Type 0} {am : List ℕ → A} {bytes : S → List ℕ} {capacity reads : S → ℕ} {rs : List (Record PieceRow (TextValue A))} {tr : Tree} (k : ℕ) {v w : TextValue A} {q : Result (Option PieceRow) Unsound} {s : S}

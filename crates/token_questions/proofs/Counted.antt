@@ -6,7 +6,7 @@ use Rattle.plain.specs.Lists.{at, nth, find}
 use Rattle.plain.specs.Tokens.{step, end_state, token_of, tokens, tokens_from}
 use Rattle.plain.specs.Questions.{token_of_offset, token_of_number}
 use Rattle.plain.specs.declared.answers.Token.{Token}
-use Rattle.lexer.specs.Reading.{beginnings, read_from_lem}
+use Rattle.lexer.specs.Reading.{beginnings, read_from}
 use Rattle.lexer.proofs.WholeText.{whole_read}
 
 -- reading one list after another
@@ -248,7 +248,7 @@ token_number_lem t k a e B number within reach ends =
 
 -- there is no token k where fewer begin
 pub no_token : (t : List ℕ) (k : ℕ) → beginnings 0 t < k → token_of_number t k ≡ None
-unfolding read_from_lem
+unfolding read_from
 no_token t zero h = refl
 no_token t (suc k) h = past (tokens t) k (omega (arith, (whole_read t).begun))
   where

@@ -3,7 +3,7 @@ use Rattle.std.proofs.Common.{◌≡◌, ℕ, ◌+◌, ◌^◌, ◌<◌, ◌≤�
 use Rattle.std.proofs.lemmas.List.{take_more, take_all, take-take, get_or-drop, get_or-take}
 use Rattle.std.proofs.lemmas.Bool.{both_ways}
 use Rattle.measures.specs.Law.{heaviest}
-use Rattle.lexer.specs.Reading.{read_from_lem}
+use Rattle.lexer.specs.Reading.{read_from}
 use Rattle.lexer.specs.declared.tokens.TokenRow.{TokenRow}
 use Rattle.slots.specs.declared.records.Unsound.{Unsound}
 use Rattle.stores.specs.Stores.{summed, ReadsAt}
@@ -13,12 +13,12 @@ use Rattle.token_questions.specs.declared.scan.Stop.{Stop}
 
 -- one byte more, read from a state
 abbrev pub AddsByte : TokenRow → ℕ → TokenRow → Type 0
-AddsByte v b v' = (q : ℕ) (w : List ℕ) → length w < heaviest → v ≡ read_from_lem q w → v' ≡ read_from_lem q (w ++ (b ∷ []))
+AddsByte v b v' = (q : ℕ) (w : List ℕ) → length w < heaviest → v ≡ read_from q w → v' ≡ read_from q (w ++ (b ∷ []))
 
 module _ {S : Type 0} (bytes : S → List ℕ) (capacity reads : S → ℕ) where
   -- i bytes have been read, and the goal was not reached at the last of them
   pub record Scanning (s s' : S) (a n i : ℕ) (row v : TokenRow) (goal : Goal) : Type 0 where
-    pub value : (q : ℕ) (w bs : List ℕ) → bs ≡ take n (drop a (bytes s)) → row ≡ read_from_lem q w → a + n ≤ length (bytes s) → length w + n ≤ heaviest → v ≡ read_from_lem q (w ++ take i bs)
+    pub value : (q : ℕ) (w bs : List ℕ) → bs ≡ take n (drop a (bytes s)) → row ≡ read_from q w → a + n ≤ length (bytes s) → length w + n ≤ heaviest → v ≡ read_from q (w ++ take i bs)
     pub no : (i ≡ 0) ⊎ (reached goal i v ≡ false)
     pub counts : reads s' ≡ summed (reads s) i
     pub same_bytes : bytes s' ≡ bytes s
@@ -27,7 +27,7 @@ module _ {S : Type 0} (bytes : S → List ℕ) (capacity reads : S → ℕ) wher
 module _ {S : Type 0} {bytes : S → List ℕ} {capacity reads : S → ℕ} {s : S} {a n : ℕ} {row : TokenRow} {goal : Goal} where
   pub scanning_none : reads s < 2 ^ 64 → Scanning bytes capacity reads s s a n 0 row row goal
   scanning_none h = record {
-    value = λ q w bs here e inside light. e ∙ ap (read_from_lem q) (sym (append-nil w));
+    value = λ q w bs here e inside light. e ∙ ap (read_from q) (sym (append-nil w));
     no = inl refl;
     counts = omega arith;
     same_bytes = refl;
@@ -44,13 +44,13 @@ module _ {S : Type 0} {bytes : S → List ℕ} {capacity reads : S → ℕ} {s :
     long : (bs : List ℕ) → bs ≡ take n (drop a (bytes s)) → a + n ≤ length (bytes s) → length bs ≡ n
     long bs here inside = ap length here ∙ length-take n (drop a (bytes s)) ∙ simp length-drop (omega arith)
 
-    value_more : (q : ℕ) (w bs : List ℕ) → bs ≡ take n (drop a (bytes s)) → row ≡ read_from_lem q w → a + n ≤ length (bytes s) → length w + n ≤ heaviest → v' ≡ read_from_lem q (w ++ take (i + 1) bs)
+    value_more : (q : ℕ) (w bs : List ℕ) → bs ≡ take n (drop a (bytes s)) → row ≡ read_from q w → a + n ≤ length (bytes s) → length w + n ≤ heaviest → v' ≡ read_from q (w ++ take (i + 1) bs)
     value_more q w bs here e inside light =
         let size : length bs ≡ n = long bs here inside in
         let more : take (i + 1) bs ≡ take i bs ++ (b ∷ []) = take_more bs i 0 (omega arith) ∙ ap (λ (y : ℕ). take i bs ++ (y ∷ [])) (sym (byte_is bs here)) in
         let part : length (w ++ take i bs) < heaviest = omega (arith, length-append w (take i bs), length-take i bs) in
         add q (w ++ take i bs) part (p.value q w bs here e inside light)
-        ∙ ap (read_from_lem q) (append_assoc w (take i bs) (b ∷ []) ∙ ap (λ (l : List ℕ). w ++ l) (sym more))
+        ∙ ap (read_from q) (append_assoc w (take i bs) (b ∷ []) ∙ ap (λ (l : List ℕ). w ++ l) (sym more))
 
     pub scanning_more : {y : Bool} → y ≡ reached goal (i + 1) v' → y ≡ false → Scanning bytes capacity reads s s₂ a n (i + 1) row v' goal
     scanning_more asked left = record {
@@ -96,10 +96,10 @@ module _ {S : Type 0} {bytes : S → List ℕ} {capacity reads : S → ℕ} {s :
     stops = λ q w bs here f inside light yes.
         let same : i ≡ n = omega arith in
         let size : length bs ≡ n = ap length here ∙ length-take n (drop a (bytes s)) ∙ simp length-drop (omega arith) in
-        let whole : v ≡ read_from_lem q (w ++ bs) = p.value q w bs here f inside light ∙ ap (λ (l : List ℕ). read_from_lem q (w ++ l)) (take_all i bs (omega arith)) in
-        let no : reached goal n (read_from_lem q (w ++ bs)) ≡ false =
-        ⊎_elim (λ z. absurd (omega arith)) (λ z. ap (λ (k : ℕ). reached goal k (read_from_lem q (w ++ bs))) (sym same) ∙ ap (reached goal i) (sym whole) ∙ z) p.no in
-        absurd (both_ways (reached goal n (read_from_lem q (w ++ bs))) no yes);
+        let whole : v ≡ read_from q (w ++ bs) = p.value q w bs here f inside light ∙ ap (λ (l : List ℕ). read_from q (w ++ l)) (take_all i bs (omega arith)) in
+        let no : reached goal n (read_from q (w ++ bs)) ≡ false =
+        ⊎_elim (λ z. absurd (omega arith)) (λ z. ap (λ (k : ℕ). reached goal k (read_from q (w ++ bs))) (sym same) ∙ ap (reached goal i) (sym whole) ∙ z) p.no in
+        absurd (both_ways (reached goal n (read_from q (w ++ bs))) no yes);
     few = omega (arith, p.counts);
     same_bytes = p.same_bytes;
     same_capacity = p.same_capacity;

@@ -1,7 +1,7 @@
 -- Reading through a part of the store until a goal is reached.
 use Rattle.std.specs.Prelude.{◌≡◌, ℕ, ◌+◌, ◌<◌, ◌≤◌, Bool, true, false, ◌⊎◌, List, ◌++◌, length, take, drop, Ok, Result, nat_le, slice_index}
 use Rattle.measures.specs.Law.{heaviest}
-use Rattle.lexer.specs.Reading.{read_from_lem}
+use Rattle.lexer.specs.Reading.{read_from}
 use Rattle.lexer.specs.declared.tokens.TokenRow.{TokenRow}
 use Rattle.slots.specs.declared.records.Unsound.{Unsound}
 use Rattle.token_questions.specs.declared.scan.Goal.{Goal}
@@ -18,15 +18,15 @@ reached (Strays m) n r = nat_le m r.strays
 pub record Stops (q : ℕ) (w bs : List ℕ) (goal : Goal) (x : Stop) : Type 0 where
   pub within : x.index < length bs
   pub byte : x.byte ≡ slice_index bs x.index
-  pub before : x.before ≡ read_from_lem q (w ++ take x.index bs)
-  pub after : x.after ≡ read_from_lem q (w ++ take (x.index + 1) bs)
+  pub before : x.before ≡ read_from q (w ++ take x.index bs)
+  pub after : x.after ≡ read_from q (w ++ take (x.index + 1) bs)
   pub yes : reached goal (x.index + 1) x.after ≡ true
   pub no : (x.index ≡ 0) ⊎ (reached goal x.index x.before ≡ false)
 
 -- the n bytes at address a were read on from the row
 pub record Scanned {S : Type 0} (bytes : S → List ℕ) (capacity reads : S → ℕ) (s s' : S) (a n : ℕ) (row : TokenRow) (goal : Goal) (r : Result Stop Unsound) : Type 0 where
-  pub stops : (q : ℕ) (w bs : List ℕ) → bs ≡ take n (drop a (bytes s)) → row ≡ read_from_lem q w → a + n ≤ length (bytes s) → length w + n ≤ heaviest
-      → reached goal n (read_from_lem q (w ++ bs)) ≡ true → (x : Stop) × (r ≡ Ok x) × Stops q w bs goal x
+  pub stops : (q : ℕ) (w bs : List ℕ) → bs ≡ take n (drop a (bytes s)) → row ≡ read_from q w → a + n ≤ length (bytes s) → length w + n ≤ heaviest
+      → reached goal n (read_from q (w ++ bs)) ≡ true → (x : Stop) × (r ≡ Ok x) × Stops q w bs goal x
   pub few : reads s' ≤ reads s + 256
   pub same_bytes : bytes s' ≡ bytes s
   pub same_capacity : capacity s' ≡ capacity s
