@@ -70,15 +70,15 @@ module _ {A S : Type 0} (am : List ℕ → A) (bytes : S → List ℕ) (capacity
     after = moment x.text x.slots x.marks s' z'
 
     most : ℕ
-    most = max m.text_slots m.mark_slots_of
+    most = max m.text_slots m.mark_slots
 
     slots_are : m.text_slots ≡ length (watched_of x.slots)
     slots_are = ap (λ (q : Machine). q.text_slots) sp.machine
 
-    marks_are : m.mark_slots_of ≡ length (watched_of x.marks)
-    marks_are = ap (λ (q : Machine). q.mark_slots_of) sp.machine
+    marks_are : m.mark_slots ≡ length (watched_of x.marks)
+    marks_are = ap (λ (q : Machine). q.mark_slots) sp.machine
 
-    refusal_by : (b : Bool) → leb (max m.text_slots m.mark_slots_of) n ≡ b → refusal m (call.Audit n) ≡ option_map Text (cond b None (Some fault.Slots))
+    refusal_by : (b : Bool) → leb (max m.text_slots m.mark_slots) n ≡ b → refusal m (call.Audit n) ≡ option_map Text (cond b None (Some fault.Slots))
     refusal_by b e = ap (λ q. option_map Text (cond q None (Some fault.Slots))) e
 
     lent_size : length (take (min n (length x.scratch)) x.scratch) ≡ min n (length x.scratch)
@@ -87,12 +87,12 @@ module _ {A S : Type 0} (am : List ℕ → A) (bytes : S → List ℕ) (capacity
     there : Spells am (mode_of x.text) (bytes x.store) (capacity x.store) (watched_of x.slots) (watched_of x.marks) h m
     there = subst (λ q. Spells am (mode_of x.text) (bytes x.store) (capacity x.store) (watched_of x.slots) (watched_of x.marks) q m) (sym at) sp
 
-    passed : (lent : List ℕ) (u : Unit {0}) → leb (max m.text_slots m.mark_slots_of) n ≡ true → AuditLent am bytes capacity reads x.store s' (watched_of x.slots) (watched_of x.marks) h x.scratch z' n (Ok u)
+    passed : (lent : List ℕ) (u : Unit {0}) → leb (max m.text_slots m.mark_slots) n ≡ true → AuditLent am bytes capacity reads x.store s' (watched_of x.slots) (watched_of x.marks) h x.scratch z' n (Ok u)
         → Performed am bytes capacity reads m x (call.Audit n) (sound_or_fault (Ok u)) after
     passed lent u e L =
         let kept : Kept am bytes capacity reads x after = record { text = refl; slots = refl; marks = refl; same_bytes = L.audited.same_bytes } in
         let out = L.audited.outcome in
-        let wide : max (length (watched_of x.slots)) (length (watched_of x.marks)) ≡ max m.text_slots m.mark_slots_of = omega (arith, slots_are, marks_are) in
+        let wide : max (length (watched_of x.slots)) (length (watched_of x.marks)) ≡ max m.text_slots m.mark_slots = omega (arith, slots_are, marks_are) in
         let zeros = ap (λ q. q ++ drop (min n (length x.scratch)) x.scratch) out.0.zeros in
         let w = max (length (watched_of x.slots)) (length (watched_of x.marks)) in
         performed am bytes capacity reads m x (call.Audit n) (sound_or_fault (Ok u)) after refl (refusal_by true e) (
@@ -112,7 +112,7 @@ module _ {A S : Type 0} (am : List ℕ → A) (bytes : S → List ℕ) (capacity
         )
         (record { slots = refl; marks = refl }) L.audited.same_capacity
 
-    too_short : (r : Result (Unit {0}) TextFault) → leb (max m.text_slots m.mark_slots_of) n ≡ false → AuditLent am bytes capacity reads x.store s' (watched_of x.slots) (watched_of x.marks) h x.scratch z' n (Err fault.Slots)
+    too_short : (r : Result (Unit {0}) TextFault) → leb (max m.text_slots m.mark_slots) n ≡ false → AuditLent am bytes capacity reads x.store s' (watched_of x.slots) (watched_of x.marks) h x.scratch z' n (Err fault.Slots)
         → Performed am bytes capacity reads m x (call.Audit n) (sound_or_fault (Err fault.Slots)) after
     too_short r e L =
         let out = L.audited.outcome in
@@ -124,11 +124,11 @@ module _ {A S : Type 0} (am : List ℕ → A) (bytes : S → List ℕ) (capacity
         })
         (record { slots = refl; marks = refl }) L.audited.same_capacity sp
 
-    by : (b : Bool) → leb (max m.text_slots m.mark_slots_of) n ≡ b → (r : Result (Unit {0}) TextFault) → AuditLent am bytes capacity reads x.store s' (watched_of x.slots) (watched_of x.marks) h x.scratch z' n r
+    by : (b : Bool) → leb (max m.text_slots m.mark_slots) n ≡ b → (r : Result (Unit {0}) TextFault) → AuditLent am bytes capacity reads x.store s' (watched_of x.slots) (watched_of x.marks) h x.scratch z' n r
         → Performed am bytes capacity reads m x (call.Audit n) (sound_or_fault r) after
     by true e (Ok u) L = passed L.lent u e L
-    by false e (Ok u) L = absurd (omega (arith, L.audited.outcome.0.enough, lent_size, slots_are, marks_are, leb-false (max m.text_slots m.mark_slots_of) n e))
-    by true e (Err fault.Slots) L = absurd (omega (arith, room, L.audited.outcome.short, lent_size, slots_are, marks_are, leb-true (max m.text_slots m.mark_slots_of) n e))
+    by false e (Ok u) L = absurd (omega (arith, L.audited.outcome.0.enough, lent_size, slots_are, marks_are, leb-false (max m.text_slots m.mark_slots) n e))
+    by true e (Err fault.Slots) L = absurd (omega (arith, room, L.audited.outcome.short, lent_size, slots_are, marks_are, leb-true (max m.text_slots m.mark_slots) n e))
     by false e (Err fault.Slots) L = too_short (Err fault.Slots) e L
     by true e (Err fault.Unsound) L = absurd (L.audited.outcome.1 there.sound)
     by false e (Err fault.Unsound) L = absurd (L.audited.outcome.1 there.sound)
@@ -140,4 +140,4 @@ module _ {A S : Type 0} (am : List ℕ → A) (bytes : S → List ℕ) (capacity
 
     pub audit_made : (r : Result (Unit {0}) TextFault) → AuditLent am bytes capacity reads x.store s' (watched_of x.slots) (watched_of x.marks) h x.scratch z' n r
         → Performed am bytes capacity reads m x (call.Audit n) (sound_or_fault r) after
-    audit_made r L = by (leb (max m.text_slots m.mark_slots_of) n) refl r L
+    audit_made r L = by (leb (max m.text_slots m.mark_slots) n) refl r L

@@ -82,7 +82,7 @@ module _ {A S : Type 0} (am : List ℕ → A) (bytes : S → List ℕ) (capacity
   pub record Audited (m : Machine) (x y : Moment A S) : Type 0 where
     pub kept : Kept x y
     pub each_byte_once : reads y.store ≡ summed (reads x.store) (size m + length (spell m.bytes (clipped m)))
-    pub zeroed : y.scratch ≡ replicate (max m.text_slots m.mark_slots_of) 0 ++ drop (max m.text_slots m.mark_slots_of) x.scratch
+    pub zeroed : y.scratch ≡ replicate (max m.text_slots m.mark_slots) 0 ++ drop (max m.text_slots m.mark_slots) x.scratch
 
   -- by the kind of the call, and the machine's own refusal
   abbrev pub Effect : Kind → Option CallFault → Machine → (x y : Moment A S) → SoundAt y → Type 0

@@ -132,12 +132,12 @@ marks_settled {ms} {ms'} {f'} le got M = record {
 }
 
 machines : {B B' : List ℕ} {c c' u u' v v' : ℕ} {g g' : List Piece} {k k' : Option (List Piece)} {h h' : List Mark} → B ≡ B' → c ≡ c' → u ≡ u' → v ≡ v' → g ≡ g' → k ≡ k' → h ≡ h'
-    → ◌≡◌ {A = Machine} (record { bytes = B; capacity = c; text_slots = u; mark_slots_of = v; pieces = g; clip = k; marks = h }) (record { bytes = B'; capacity = c'; text_slots = u'; mark_slots_of = v'; pieces = g'; clip = k'; marks = h' })
+    → ◌≡◌ {A = Machine} (record { bytes = B; capacity = c; text_slots = u; mark_slots = v; pieces = g; clip = k; marks = h }) (record { bytes = B'; capacity = c'; text_slots = u'; mark_slots = v'; pieces = g'; clip = k'; marks = h' })
 machines a b c d e f g = cc
 
 -- Both slices, with a head over them, spell the machine m'.
 module _ {A S : Type 0} {am : List ℕ → A} {bytes : S → List ℕ} {capacity reads : S → ℕ} {s s' : S} {rs rs' : List (Record PieceRow (TextValue A))} {ms ms' : List (Record MarkRow MarkTotals)} {mode : Mode} {m' : Machine} where
-  pub both_settled : {tr kr ur : Tree} {f' e' : Link} {n c : ℕ} → Ordered 0 (size m') m'.marks → m'.bytes ≡ bytes s' → m'.capacity ≡ capacity s' → m'.text_slots ≡ length rs → m'.mark_slots_of ≡ length ms
+  pub both_settled : {tr kr ur : Tree} {f' e' : Link} {n c : ℕ} → Ordered 0 (size m') m'.marks → m'.bytes ≡ bytes s' → m'.capacity ≡ capacity s' → m'.text_slots ≡ length rs → m'.mark_slots ≡ length ms
       → TextSettled am (bytes s') rs rs' f' mode tr kr m'.pieces m'.clip → MarksSettled ms ms' e' ur m'.marks
       → n ≡ length m'.pieces + length (clipped m') → c ≡ length m'.marks → reads s' ≤ reads s + 512
       → Accepted am bytes capacity reads s s' rs rs' ms ms' (record { text = tr; clip = kr; free = f'; pieces = n; marks = ur; free_marks = e'; mark_count = c }) mode m'

@@ -1,4 +1,4 @@
--- Laws of `folded`: a meaning that reads a list from left to right has its join law from one step.
+-- Laws of `fold`: a meaning that reads a list from left to right has its join law from one step.
 use Rattle.std.proofs.Common.{◌≡◌, ℕ, ◌+◌, ◌≤◌, List, [], ◌∷◌, ◌++◌, fold, sym, refl, ap, ◌∙◌, arith}
 use Rattle.measures.specs.Law.{weights}
 

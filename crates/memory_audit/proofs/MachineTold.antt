@@ -27,8 +27,8 @@ spelled_size B xs g = sym (flat_size B xs g) ∙ ap length (spells B xs)
 
 module _ {A : Type 0} {am : List ℕ → A} {B : List ℕ} {rs : List (Record PieceRow (TextValue A))} {ms : List (Record MarkRow MarkTotals)} {h : Head} {m : Machine} {c : ℕ} (mode : Mode)
     (sp : Spells am mode B c rs ms h m) where
-  most_slots : max m.text_slots m.mark_slots_of ≡ max (length rs) (length ms)
-  most_slots = ap (λ (x : Machine). max x.text_slots x.mark_slots_of) sp.machine
+  most_slots : max m.text_slots m.mark_slots ≡ max (length rs) (length ms)
+  most_slots = ap (λ (x : Machine). max x.text_slots x.mark_slots) sp.machine
 
   clip_size : (mode : Mode) → ClipIs mode h.clip → sizes (rows sp.sound.k) ≡ length (spell B (clipped (machine_of mode B c (length rs) (length ms) (rows sp.sound.t) (rows sp.sound.k) (rows sp.sound.u))))
   clip_size whole none = ap sizes (tree_empty (λ t. rows t ≡ []) refl sp.sound.k (sp.sound.text.clip ∙ none))
@@ -40,10 +40,10 @@ module _ {A : Type 0} {am : List ℕ → A} {B : List ℕ} {rs : List (Record Pi
       ∙ ap (λ (x : Machine). size x + length (spell x.bytes (clipped x))) (sym sp.machine)
 
   enough : (n : ℕ) → max (length rs) (length ms) ≤ n → result_of (first_no (asked m (call.Audit n))) (tt {0}) ≡ Ok (tt {0})
-  enough n le = ap (λ (b : Bool). result_of (first_no ((b, fault.Slots) ∷ [])) (tt {0})) (le-leb (max m.text_slots m.mark_slots_of) n (omega (arith, most_slots)))
+  enough n le = ap (λ (b : Bool). result_of (first_no ((b, fault.Slots) ∷ [])) (tt {0})) (le-leb (max m.text_slots m.mark_slots) n (omega (arith, most_slots)))
 
   too_few : (n : ℕ) → n < max (length rs) (length ms) → result_of (first_no (asked m (call.Audit n))) (tt {0}) ≡ Err fault.Slots
-  too_few n lt = ap (λ (b : Bool). result_of (first_no ((b, fault.Slots) ∷ [])) (tt {0})) (lt-leb (max m.text_slots m.mark_slots_of) n (omega (arith, most_slots)))
+  too_few n lt = ap (λ (b : Bool). result_of (first_no ((b, fault.Slots) ∷ [])) (tt {0})) (lt-leb (max m.text_slots m.mark_slots) n (omega (arith, most_slots)))
 
 module _ {A S : Type 0} {am : List ℕ → A} {bytes : S → List ℕ} {capacity reads : S → ℕ} {s s' : S} {rs : List (Record PieceRow (TextValue A))} {ms : List (Record MarkRow MarkTotals)} {h : Head} {scratch scratch' : List ℕ} {m : Machine} {c : ℕ} (mode : Mode)
     (sp : Spells am mode (bytes s) c rs ms h m) where
@@ -61,5 +61,5 @@ module _ {A S : Type 0} {am : List ℕ → A} {bytes : S → List ℕ} {capacity
   pub reads_told : {u : Unit {0}} → MemoryAudited am bytes capacity reads s s' rs ms h scratch scratch' (Ok u) → reads s' ≡ summed (reads s) (size m + length (spell m.bytes (clipped m)))
   reads_told a = a.outcome.1.each_once sp.sound ∙ ap (λ (n : ℕ). summed (reads s) n) (both_sizes mode sp)
 
-  pub zeros_told : {u : Unit {0}} → MemoryAudited am bytes capacity reads s s' rs ms h scratch scratch' (Ok u) → scratch' ≡ replicate (max m.text_slots m.mark_slots_of) 0 ++ drop (max m.text_slots m.mark_slots_of) scratch
+  pub zeros_told : {u : Unit {0}} → MemoryAudited am bytes capacity reads s s' rs ms h scratch scratch' (Ok u) → scratch' ≡ replicate (max m.text_slots m.mark_slots) 0 ++ drop (max m.text_slots m.mark_slots) scratch
   zeros_told a = a.outcome.0.zeros ∙ ap (λ (n : ℕ). replicate n 0 ++ drop n scratch) (sym (most_slots mode sp))

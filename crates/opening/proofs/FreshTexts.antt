@@ -83,7 +83,7 @@ module _ (B : List ℕ) (u v : ℕ) where
     asked_all le = ap₂ answers enough (le-leb (length B) (256 * limit (watched u)) le)
 
 machine_same : {B B' : List ℕ} {c c' u u' v v' : ℕ} {g g' : List Piece} → B ≡ B' → c ≡ c' → u ≡ u' → v ≡ v' → g ≡ g'
-    → ◌≡◌ {A = Machine} (record { bytes = B; capacity = c; text_slots = u; mark_slots_of = v; pieces = g; clip = None; marks = [] }) (record { bytes = B'; capacity = c'; text_slots = u'; mark_slots_of = v'; pieces = g'; clip = None; marks = [] })
+    → ◌≡◌ {A = Machine} (record { bytes = B; capacity = c; text_slots = u; mark_slots = v; pieces = g; clip = None; marks = [] }) (record { bytes = B'; capacity = c'; text_slots = u'; mark_slots = v'; pieces = g'; clip = None; marks = [] })
 machine_same a b c d e = cc
 
 too_few : {u v : ℕ} → 130 ≤ u → 130 ≤ v → (u < 130) ⊎ (v < 130) → ⊥

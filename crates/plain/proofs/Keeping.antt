@@ -91,7 +91,7 @@ module _ (a b : ℕ) (m : Machine) (i : Proper m) (lt : a < b) (le : b ≤ size 
       ordered_to (size m - (b - a)) (size (delete a b m)) (shrunk a b m.marks) (sym long)
       (ordered_shrunk a b (size m) m.marks (omega arith) le i.marks)
 
-  fewer : length (shrunk a b m.marks) ≤ limit m.mark_slots_of
+  fewer : length (shrunk a b m.marks) ≤ limit m.mark_slots
   fewer = omega (arith, length_shrunk a b m.marks, i.few_marks)
 
 proper_delete : (a b : ℕ) (m : Machine) → Proper m → Passed (asked m (call.Delete a b)) → Proper (delete a b m)
@@ -152,7 +152,7 @@ proper_discard m i = record {
 proper_mark : (q l : ℕ) (m : Machine) → Proper m → Passed (asked m (call.Mark q l)) → Proper (mark q l m)
 proper_mark q l m i y =
     let there : q ≤ size m = leb-true _ _ y.0 in
-    let lt : length m.marks < limit m.mark_slots_of = ltb-true _ _ y.1.0 in
+    let lt : length m.marks < limit m.mark_slots = ltb-true _ _ y.1.0 in
     record {
       pieces = i.pieces;
       clip = i.clip;

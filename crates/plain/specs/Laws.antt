@@ -45,7 +45,7 @@ pub record Proper (m : Machine) : Type 0 where
   pub clip : AllGood m.bytes (clipped m)
   pub store : length m.bytes ≤ m.capacity
   pub few : length m.pieces + length (clipped m) ≤ limit m.text_slots
-  pub few_marks : length m.marks ≤ limit m.mark_slots_of
+  pub few_marks : length m.marks ≤ limit m.mark_slots
   pub marks : Ordered 0 (size m) m.marks
 
 -- What the edits mean for the text, with no word of pieces.

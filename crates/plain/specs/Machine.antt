@@ -19,12 +19,12 @@ use Rattle.plain.specs.declared.faults.CallFault.TheVariants.{NotAllowed, Text}
 abbrev pub Call : Type 0
 Call = calls.Call (List ℕ)
 
--- A text is whole without a clip, and held with one. `textSlots` and `markSlots` are the watched slots.
+-- A text is whole without a clip, and held with one. `text_slots` and `mark_slots` are the watched slots.
 pub record Machine : Type 0 where
   pub bytes : List ℕ
   pub capacity : ℕ
   pub text_slots : ℕ
-  pub mark_slots_of : ℕ
+  pub mark_slots : ℕ
   pub pieces : List Piece
   pub clip : Option (List Piece)
   pub marks : List Mark
@@ -55,7 +55,7 @@ with m s g k h = record {
   bytes = s;
   capacity = m.capacity;
   text_slots = m.text_slots;
-  mark_slots_of = m.mark_slots_of;
+  mark_slots = m.mark_slots;
   pieces = g;
   clip = k;
   marks = h;
@@ -125,7 +125,7 @@ asked m (call.Cut a b) = (nat_lt a b && nat_le b (size m), Offset) ∷ (roomy (c
 asked m (call.Paste p) = (nat_le p (size m), Offset) ∷ (roomy (paste p m), Pieces) ∷ []
 asked m call.Discard = []
 asked m (call.Mark q l) =
-    (nat_le q (size m), Offset) ∷ (nat_lt (length m.marks) (limit m.mark_slots_of), Marks) ∷ []
+    (nat_le q (size m), Offset) ∷ (nat_lt (length m.marks) (limit m.mark_slots), Marks) ∷ []
 asked m (call.LineOf p) = (nat_le p (size m), Offset) ∷ []
 asked m (call.StartOf k) = []
 asked m (call.TokenAt p) = (nat_lt p (size m), Offset) ∷ []
@@ -134,7 +134,7 @@ asked m (call.BracketAt p) = (nat_lt p (size m), Offset) ∷ []
 asked m (call.MarkFrom q) = (nat_le q (size m), Offset) ∷ []
 asked m (call.Range a b) = (nat_le a b && nat_le b (size m), Offset) ∷ []
 asked m call.Whole = []
-asked m (call.Audit n) = (nat_le (max m.text_slots m.mark_slots_of) n, Slots) ∷ []
+asked m (call.Audit n) = (nat_le (max m.text_slots m.mark_slots) n, Slots) ∷ []
 
 abbrev pub refusal : Machine → Call → Option CallFault
 refusal m c = cond (allowed m c) (option_map Text (first_no (asked m c))) (Some NotAllowed)
@@ -178,7 +178,7 @@ fresh s c u v = record {
   bytes = s;
   capacity = c;
   text_slots = watched u;
-  mark_slots_of = watched v;
+  mark_slots = watched v;
   pieces = blocks 0 (length s / 256) (length s % 256);
   clip = None;
   marks = [];

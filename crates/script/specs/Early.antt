@@ -1,5 +1,5 @@
 -- What is answered as long as the engine is missing: texts are opened and summed up, and every other call is refused
--- as one that is not allowed. With the engine this file goes, and the plain `panel` takes the place of `earlyPanel`.
+-- as one that is not allowed. With the engine this file goes, and the plain `panel` takes the place of `early_panel`.
 use Rattle.std.specs.Prelude.{ℕ, suc, ◌+◌, Bool, true, false, cond, List, [], ◌∷◌, ◌++◌, length, Some, None, Ok, Err, Option, Result}
 use Rattle.plain.specs.Questions.{summary}
 use Rattle.plain.specs.Machine.{Machine, Call, fresh}

@@ -33,7 +33,7 @@ fresh_same : (B : List ℕ) (c n k m j : ℕ) → k ≡ min n 8316 → j ≡ min
 fresh_same B c n k m j e f =
     let wn : watched k ≡ watched n = omega arith in
     let wm : watched j ≡ watched m = omega arith in
-    ap₂ (λ u v. record { bytes = B; capacity = c; text_slots = u; mark_slots_of = v; pieces = (fresh B c n m).pieces; clip = (fresh B c n m).clip; marks = [] }) wn wm
+    ap₂ (λ u v. record { bytes = B; capacity = c; text_slots = u; mark_slots = v; pieces = (fresh B c n m).pieces; clip = (fresh B c n m).clip; marks = [] }) wn wm
 
 -- what opening a head gave, as the text's
 abbrev pub whole_of : Result Head TextFault → Result Whole TextFault
