@@ -5,7 +5,7 @@ taken already is set apart: a lemma gets `_lem`, a definition the name that TAKE
 import os
 import re
 
-# definitions whose new name a function of src/ or another definition has
+# definitions whose name in snake case a function of src/ or another definition has, and what they are called
 TAKEN = {
     "onePart": "one_part_of",
     "digitValue": "digit_value_of",
@@ -13,7 +13,8 @@ TAKEN = {
     "digitOf": "decimal_of",
     "tokenAt": "token_of_offset",
     "tokenNumber": "token_of_number",
-    "markSlots": "mark_slots_of",
+    "markSlots": "mark_slots",
+    "spine-at": "spine_kind",
     "soundOr": "sound_or_fault",
     "lastOffset": "last_offset_of",
     "startOf": "start_of_line",
@@ -100,7 +101,7 @@ def renaming():
         to = TAKEN.get(name) or snake(name)
         if name not in TAKEN and (to in taken or to in new.values()):
             to += "_lem"
-        assert to not in taken and to not in new.values(), (name, to)
+        assert to not in new.values() and (name in TAKEN or to not in taken), (name, to)
         new[name] = to
     return new, fields
 

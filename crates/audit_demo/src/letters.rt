@@ -141,7 +141,7 @@ fn changed(i: usize, record: Record<u8, LongestLine>) -> Memory {
     memory
 }
 
-pub fn tell(rt: &HostRuntime) -> io::Result<()> {
+pub(crate) fn tell(rt: &HostRuntime) -> io::Result<()> {
     judge(rt, "nine letters", &sound())?;
     chains(rt)?;
     trees(rt)?;

@@ -87,7 +87,7 @@ fn judge_short(rt: &HostRuntime) -> io::Result<()> {
     }
 }
 
-pub fn tell(rt: &HostRuntime) -> io::Result<()> {
+pub(crate) fn tell(rt: &HostRuntime) -> io::Result<()> {
     judge(rt, 3, 4)?;
     judge(rt, 1_000_000, 1_097_150)?;
     judge(rt, 1_000_000, 1_097_151)?;

@@ -1,4 +1,4 @@
-// Every edit of a text, as functions on a head and the lent slices.
+// What is asked before an edit of a text and where its offsets fall; the text's tree taken apart, a piece or the clip put into it.
 #![tactic(auto)]
 
 pub mod doors;

@@ -1,4 +1,4 @@
-// Questions on the tokens of a text, by its head. Slots are only read.
+// The bytes of one piece, read up to the one at which a goal is reached; where the tokens of a text begin.
 #![tactic(auto)]
 
 pub mod scan;

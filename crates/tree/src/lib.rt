@@ -1,4 +1,4 @@
-// The finger tree in lent slots: pushing, popping, concatenating and releasing, for any row and any lawful measure.
+// The finger tree in lent slots: pushing and popping at either side, for any row and any lawful measure.
 #![tactic(auto)]
 
 pub mod build;
