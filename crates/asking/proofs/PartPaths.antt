@@ -4,7 +4,7 @@ use lib.Seq.{take-nil}
 use Rattle.std.proofs.lemmas.List.{drop_all, drop-take}
 use Rattle.std.proofs.lemmas.Bool.{cases_lt}
 use Rattle.plain.specs.Lists.{slice}
-use Rattle.stores.specs.Stores.{Lawful}
+use Rattle.stores.specs.Stores.{Contents, Lawful}
 use Rattle.slots.specs.declared.records.Unsound.{Unsound}
 use Rattle.pieces.specs.Rows.{bytes_of, Good, Makes, SamePiece, Measured, RowMeasured}
 use Rattle.pieces.specs.declared.piece.Piece.{Piece}
@@ -12,26 +12,26 @@ use Rattle.pieces.specs.declared.rows.PieceRow.{PieceRow}
 use Rattle.asking.specs.Texts.{Reads, PartOf, PartMeasured, SliceMeasured}
 use Rattle.asking.proofs.TextPlaces.{row_size}
 
-pub reads_none : {S : Type 0} {bytes : S → List ℕ} {capacity reads : S → ℕ} {n : ℕ} {s : S} → Reads bytes capacity reads n s s
+pub reads_none : {S : Type 0} {contents : S → Contents} {n : ℕ} {s : S} → Reads contents n s s
 reads_none = record { few = omega arith; same_bytes = refl; same_capacity = refl }
 
-module _ {S V : Type 0} {bytes : S → List ℕ} {capacity reads : S → ℕ} {means : List ℕ → V} {s : S} {x : PieceRow} where
-  pub part_empty : {v : V} → x.length ≡ 0 → v ≡ means [] → PartMeasured bytes capacity reads means s s x (Ok v)
+module _ {S V : Type 0} {contents : S → Contents} {means : List ℕ → V} {s : S} {x : PieceRow} where
+  pub part_empty : {v : V} → x.length ≡ 0 → v ≡ means [] → PartMeasured contents means s s x (Ok v)
   part_empty z e = record {
-    value = λ short inside. ap Ok (e ∙ ap (λ (n : ℕ). means (take n (drop x.address (bytes s)))) (sym z));
+    value = λ short inside. ap Ok (e ∙ ap (λ (n : ℕ). means (take n (drop x.address (contents s).bytes))) (sym z));
     reading = reads_none;
   }
 
-  pub part_read : {s' : S} {r : Result V Unsound} → Lawful bytes capacity reads → (x.length ≡ 0 → ⊥) → RowMeasured means bytes capacity reads s x r s' → PartMeasured bytes capacity reads means s s' x r
+  pub part_read : {s' : S} {r : Result V Unsound} → Lawful contents → (x.length ≡ 0 → ⊥) → RowMeasured means contents s x r s' → PartMeasured contents means s s' x r
   part_read law some M = record {
     value = λ short inside. M.value (law.small s) (law.within s) (let n : 1 ≤ x.length = omega arith in n, short, inside);
     reading = record { few = M.most; same_bytes = M.same_bytes; same_capacity = M.same_capacity };
   }
 
 -- a row of bytes inside the store makes a piece
-pub makes_piece : {S : Type 0} {bytes : S → List ℕ} {capacity reads : S → ℕ} → Lawful bytes capacity reads → (s : S) (x : PieceRow) → Good (bytes s) x → Makes x
-makes_piece {bytes = bytes} law s x g =
-    let within : x.address + x.length ≤ length (bytes s) = g.2 in record {
+pub makes_piece : {S : Type 0} {contents : S → Contents} → Lawful contents → (s : S) (x : PieceRow) → Good (contents s).bytes x → Makes x
+makes_piece {contents = contents} law s x g =
+    let within : x.address + x.length ≤ length (contents s).bytes = g.2 in record {
       some = g.0;
       short = g.1;
       ends = omega (arith, law.within s, law.small s);
@@ -53,21 +53,21 @@ slice_none l a b le = ⊎_elim
     (λ (h : a < b). ap (take (b - a)) (drop_all a l (omega arith)) ∙ take-nil (b - a))
     (λ (h : b ≤ a). ap (λ (k : ℕ). take k (drop a l)) (let e : b - a ≡ 0 = omega arith in e)) (cases_lt a b)
 
-module _ {S V : Type 0} {bytes : S → List ℕ} {capacity reads : S → ℕ} {means : List ℕ → V} {s : S} {x : PieceRow} (from to : ℕ) where
-  pub slice_lost : {r : Result V Unsound} → Lawful bytes capacity reads → (Makes x → ⊥) → SliceMeasured bytes capacity reads means s s x from to r
+module _ {S V : Type 0} {contents : S → Contents} {means : List ℕ → V} {s : S} {x : PieceRow} (from to : ℕ) where
+  pub slice_lost : {r : Result V Unsound} → Lawful contents → (Makes x → ⊥) → SliceMeasured contents means s s x from to r
   slice_lost law nay = record { value = λ g. absurd (nay (makes_piece law s x g)); reading = reads_none }
 
   module _ {p : Piece} (same : SamePiece x p) where
-    pub slice_empty : {v : V} → min to p.length ≤ from → v ≡ means [] → SliceMeasured bytes capacity reads means s s x from to (Ok v)
+    pub slice_empty : {v : V} → min to p.length ≤ from → v ≡ means [] → SliceMeasured contents means s s x from to (Ok v)
     slice_empty le v-is = record {
-      value = λ g. ap Ok (v-is ∙ ap means (sym (slice_none (bytes_of (bytes s) x) from to (omega (arith, row_size (bytes s) x g, same.length_is)))));
+      value = λ g. ap Ok (v-is ∙ ap means (sym (slice_none (bytes_of (contents s).bytes x) from to (omega (arith, row_size (contents s).bytes x g, same.length_is)))));
       reading = reads_none;
     }
 
-    pub slice_read : {s' : S} {q : Piece} {r : Result V Unsound} → PartOf p from to q → Measured means bytes capacity reads s q.address q.length r s' → SliceMeasured bytes capacity reads means s s' x from to r
+    pub slice_read : {s' : S} {q : Piece} {r : Result V Unsound} → PartOf p from to q → Measured means contents s q.address q.length r s' → SliceMeasured contents means s s' x from to r
     slice_read {q = q} P M = record {
       value = λ g.
-          let B : List ℕ = bytes s in
+          let B : List ℕ = (contents s).bytes in
           let short : x.length ≤ 256 = g.1 in
           let within : x.address + x.length ≤ length B = g.2 in
           let a-is : q.address ≡ x.address + from = omega (arith, P.address_is, same.address_is) in

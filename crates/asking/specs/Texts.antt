@@ -1,6 +1,7 @@
 -- A text in slots, and what reading it gives.
 use Rattle.std.specs.Prelude.{◌≡◌, ℕ, ◌+◌, ◌-◌, ◌<◌, ◌≤◌, min, List, length, Ok, Result}
 use Rattle.plain.specs.Lists.{slice}
+use Rattle.stores.specs.Stores.{Contents}
 use Rattle.slots.specs.Ghost.{Finger, tree_of, rows, Fit}
 use Rattle.slots.specs.Holds.{most}
 use Rattle.slots.specs.Values.{flat}
@@ -27,24 +28,24 @@ pub record PartOf (p : Piece) (from to : ℕ) (q : Piece) : Type 0 where
   pub address_is : q.address ≡ p.address + from
   pub length_is : q.length ≡ min to p.length - from
 
-module _ {S : Type 0} (bytes : S → List ℕ) (capacity reads : S → ℕ) where
+module _ {S : Type 0} (contents : S → Contents) where
   -- from s to s' by at most so many reads
   pub record Reads (most : ℕ) (s s' : S) : Type 0 where
-    pub few : reads s' ≤ reads s + most
-    pub same_bytes : bytes s' ≡ bytes s
-    pub same_capacity : capacity s' ≡ capacity s
+    pub few : (contents s').reads ≤ (contents s).reads + most
+    pub same_bytes : (contents s').bytes ≡ (contents s).bytes
+    pub same_capacity : (contents s').capacity ≡ (contents s).capacity
 
   -- a row that may be empty
   pub record PartMeasured {V : Type 0} (means : List ℕ → V) (s s' : S) (x : PieceRow) (r : Result V Unsound) : Type 0 where
-    pub value : x.length ≤ 256 → x.address + x.length ≤ length (bytes s) → r ≡ Ok (means (bytes_of (bytes s) x))
+    pub value : x.length ≤ 256 → x.address + x.length ≤ length (contents s).bytes → r ≡ Ok (means (bytes_of (contents s).bytes x))
     pub reading : Reads 256 s s'
 
   -- of a row's bytes, those from one offset up to another
   pub record SliceMeasured {V : Type 0} (means : List ℕ → V) (s s' : S) (x : PieceRow) (from to : ℕ) (r : Result V Unsound) : Type 0 where
-    pub value : Good (bytes s) x → r ≡ Ok (means (slice (bytes_of (bytes s) x) from to))
+    pub value : Good (contents s).bytes x → r ≡ Ok (means (slice (bytes_of (contents s).bytes x) from to))
     pub reading : Reads 256 s s'
 
   -- what a reading of the text answers, if the text allows it
   pub record Answered {A X : Type 0} (most : ℕ) (am : List ℕ → A) (rs : List (Record PieceRow (TextValue A))) (tr : Tree) (Allows : List ℕ → Type 0) (answer : List ℕ → X) (s s' : S) (r : Result X Unsound) : Type 0 where
-    pub tells : (T : List ℕ) → TextAt am (bytes s) rs tr T → Allows T → r ≡ Ok (answer T)
+    pub tells : (T : List ℕ) → TextAt am (contents s).bytes rs tr T → Allows T → r ≡ Ok (answer T)
     pub reading : Reads most s s'

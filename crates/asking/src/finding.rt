@@ -4,7 +4,7 @@ ghost use Rattle.asking.specs.Rows.{RowFound, RowSought};
 use measures::{Measure, Probe};
 use seek::after::seek_after;
 use seek::search::search;
-use slots::arena::row_at;
+use slots::reading::row_at;
 use slots::records::{Record, Tree, Unsound};
 
 // Of the first element up to and with which the probe is yes, read on from the value in the place, where the value
@@ -18,13 +18,7 @@ pub fn find_row<R: Copy, M: Measure, P: Probe<M>>(
     ensures { RowFound M.Item.Weigh.weight M.Measure.means (P.Probe.says probe.now) slots.now tree place.old place.new result }
 {
     let found = search::<R, M, P>(slots, tree, probe, place)?;
-    match found {
-        Some(i) => {
-            let row = row_at(slots, i)?;
-            Ok(Some(row))
-        }
-        None => Ok(None),
-    }
+    found.map(|i| row_at(slots, i)).transpose()
 }
 
 // The same among the elements after the first up to and with which `from` is yes of the tree from its start.
@@ -38,11 +32,5 @@ pub fn find_row_after<R: Copy, M: Measure, F: Probe<M>, P: Probe<M>>(
     ensures { RowSought M.Item.Weigh.weight M.Measure.means (F.Probe.says from.now) (P.Probe.says until.now) slots.now tree place.old place.new result }
 {
     let found = seek_after::<R, M, F, P>(slots, tree, from, until, place)?;
-    match found {
-        Some(i) => {
-            let row = row_at(slots, i)?;
-            Ok(Some(row))
-        }
-        None => Ok(None),
-    }
+    found.map(|i| row_at(slots, i)).transpose()
 }

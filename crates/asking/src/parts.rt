@@ -9,12 +9,12 @@ use pieces::rows::PieceRow;
 use slots::records::Unsound;
 use stores::Store;
 
-// The part may be empty.
+// The part may be empty, and is no piece then, which `measure_slice` would refuse.
 pub fn measure_part<S: Store, M: Measure<Item = u8>>(
     store: &mut S,
     part: PieceRow,
 ) -> Result<M::Value, Unsound>
-    ensures { PartMeasured S.Store.bytes S.Store.capacity S.Store.reads M.Measure.means store.old store.new part result }
+    ensures { PartMeasured S.Store.contents M.Measure.means store.old store.new part result }
 {
     if part.length == 0 {
         return Ok(M::empty());
@@ -43,13 +43,11 @@ pub fn measure_slice<S: Store, M: Measure<Item = u8>>(
     from: u32,
     to: u32,
 ) -> Result<M::Value, Unsound>
-    ensures { SliceMeasured S.Store.bytes S.Store.capacity S.Store.reads M.Measure.means store.old store.new row from to result }
+    ensures { SliceMeasured S.Store.contents M.Measure.means store.old store.new row from to result }
 {
-    match row.piece() {
-        Some(piece) => match part_of(piece, from, to) {
-            Some(part) => measure_piece::<S, M>(store, part),
-            None => Ok(M::empty()),
-        },
-        None => Err(Unsound),
+    let piece = Piece::try_from(row)?;
+    match part_of(piece, from, to) {
+        Some(part) => measure_piece::<S, M>(store, part),
+        None => Ok(M::empty()),
     }
 }

@@ -20,6 +20,7 @@ use Rattle.audit.specs.Checks.{Rules}
 use Rattle.audit.specs.Visits.{mark, moment, ChainVisited, ChainFound, AreTrees, trees_at, Found, Cases, Visited}
 use Rattle.audit.specs.Post.{Zeroed, Checked, SoundTo, Audited}
 use Rattle.audit.specs.Surveys.{Verdict, Surveyed, SurveyedFresh}
+use Rattle.audit.specs.declared.AuditFault.{AuditFault}
 use Rattle.audit.specs.declared.AuditFault.TheVariants.{ShortScratch}
 use Rattle.audit.specs.declared.AuditFault.TheVariants as fault
 use Rattle.audit.specs.declared.budget.Budget.{Budget}
@@ -27,7 +28,7 @@ use Rattle.audit.proofs.Marks.{unmarked_most}
 use Rattle.audit.proofs.Checking.{stays_same}
 use Rattle.audit.proofs.Roots.{sole_trees, low_trees}
 
-named_none : (n i : ℕ) → n ≤ i → named n i ≡ 0
+pub named_none : (n i : ℕ) → n ≤ i → named n i ≡ 0
 unfolding named
 named_none n i h = ap (λ b. cond b 1 0) (le-ltb i n h)
 
@@ -140,6 +141,11 @@ module _ {R I V S : Type 0} {w : Rules R I V S} {rs : List (Record R V)} {roots 
               (λ (ge : length rs ≤ i). omega (arith, named_none (length rs) i ge, chain.marks i, a.marks i, at_start (length rs) s zero i))
               (cases_lt i (length rs))
 
+-- the source is lent back as the visits left it
+pub lent_back : {R I V S : Type 0} {w : Rules R I V S} {rs : List (Record R V)} {roots : List Tree} {free : Link} {limit : ℕ} {s : List ℕ} {l l₁ l₂ : S} {r : Result ℕ Unsound}
+    → Surveyed w l rs roots free limit l₁ s r → l₁ ≡ l₂ → Surveyed w l rs roots free limit l₂ s r
+lent_back {w = w} {rs} {roots} {free} {limit} {s} {l} {r = r} su is = subst (λ z. Surveyed w l rs roots free limit z s r) is su
+
 -- the same by marks that are zeroed before and after
 pub surveyed_fresh : {R I V S : Type 0} {w : Rules R I V S} {rs : List (Record R V)} {roots : List Tree} {free : Link} {limit : ℕ} {s s₁ s₃ : List ℕ} {l l₁ : S} {r : Result ℕ Unsound} (s₂ : List ℕ)
     → s₁ ≡ replicate (length s) 0 → Surveyed w l rs roots free limit l₁ s₁ r → length s₂ ≡ length s₁ → s₃ ≡ replicate (length s₂) 0 → SurveyedFresh w l rs roots free limit l₁ s s₃ r
@@ -173,5 +179,8 @@ module _ {R I V S : Type 0} {w : Rules R I V S} {rs : List (Record R V)} {roots 
     pub audit_passed : {k : ℕ} → q ≡ Ok k → Audited w l rs roots free limit l₁ s (s₂ ++ post_of 0 (n - 0) s) (Ok k)
     audit_passed ok = record { checked = su.checked; done = checked_front; outcome = (put_back, subst (λ z. Verdict w l rs roots free limit su.checked z) ok (su.says front)) }
 
-    pub audit_failed : {e : Unsound} → q ≡ Err e → Audited w l rs roots free limit l₁ s (s₂ ++ post_of 0 (n - 0) s) (Err fault.Unsound)
-    audit_failed bad = record { checked = su.checked; done = checked_front; outcome = (put_back, subst (λ z. Verdict w l rs roots free limit su.checked z) bad (su.says front)) }
+    failed : {e : Unsound} → q ≡ Err e → Audited w l rs roots free limit l₁ s (s₂ ++ post_of 0 (n - 0) s) (Err fault.Unsound)
+    failed bad = record { checked = su.checked; done = checked_front; outcome = (put_back, subst (λ z. Verdict w l rs roots free limit su.checked z) bad (su.says front)) }
+
+    pub audit_failed : {e : Unsound} {r : Result ℕ AuditFault} → q ≡ Err e → r ≡ Err fault.Unsound → Audited w l rs roots free limit l₁ s (s₂ ++ post_of 0 (n - 0) s) r
+    audit_failed bad is = subst (λ z. Audited w l rs roots free limit l₁ s (s₂ ++ post_of 0 (n - 0) s) z) (sym is) (failed bad)

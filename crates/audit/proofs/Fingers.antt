@@ -9,13 +9,14 @@ use Rattle.slots.proofs.Same.{at_same, tree_same}
 use Rattle.std.specs.Prelude.{◌≡◌, true, List, [], ℕ, suc, ◌+◌, ◌≤◌, ◌<◌}
 use Rattle.std.specs.declared.result.Result.{Result}
 use Rattle.std.specs.declared.result.Result.TheVariants.{Ok, Err}
-use Rattle.audit.specs.Words.{Unsound, Digit, Tree, Empty, Single, Deep, Record, Level}
+use Rattle.audit.specs.Words.{Unsound, unsound, Digit, Tree, Empty, Single, Deep, Record, Level}
 use Rattle.audit.specs.Checks.{Rules}
 use Rattle.audit.specs.Visits.{unmarked, deepest, Moment, moment, Confirmed, Entered, Kind, twig_at, arm_at, tree_at, Visited}
 use Rattle.audit.specs.declared.budget.Budget.{Budget}
 use Rattle.audit.proofs.Marks.{enter_falls, entered, not_entered}
 use Rattle.audit.proofs.Checking.{stays_same}
-use Rattle.audit.proofs.Steps.{Sole, both, worth, below, Made, refused, enter_then, valued, not_found, seen_as}
+use Rattle.audit.proofs.Steps.{Sole, both, worth, below, Made, refused, enter_then, sole_both, seq, stop, valued, not_found, seen_as}
+use Rattle.audit.proofs.Twigs.{sole_arm, same_arm}
 
 module _ {R V : Type 0} (rs : List (Record R V)) where
   pub sole_tree : (k : ℕ) (t : Tree) → Sole (tree_at rs k t)
@@ -24,6 +25,10 @@ module _ {R V : Type 0} (rs : List (Record R V)) where
   -- the digits and the middle of a level
   abbrev pub spine_kind : ℕ → Digit → Tree → Digit → Kind R V
   spine_kind k F M B = both (both (arm_at rs k F) (tree_at rs (k + 1) M)) (arm_at rs k B)
+
+-- the same tree of the same slots
+pub same_tree : {R I V S : Type 0} {w : Rules R I V S} {rs rs' : List (Record R V)} {k : ℕ} {t : Tree} {m m₁ : Moment S} {r : Result (Unit {0}) Unsound} → rs' ≡ rs → Visited w (tree_at rs' k t) m m₁ r → Visited w (tree_at rs k t) m m₁ r
+same_tree {w = w} {k = k} {t} {m} {m₁} {r} is v = subst (λ q. Visited w (tree_at q k t) m m₁ r) is v
 
 -- what a deep tree has at its slot
 deep_at : {R V : Type 0} (mn : List R → V) (rs : List (Record R V)) (i k : ℕ) (u : Finger R V) → tree_of u ≡ Deep i → Fit mn rs u k
@@ -97,11 +102,29 @@ module _ {R I V S : Type 0} {w : Rules R I V S} {rs : List (Record R V)} {k : �
         (λ mn u h. level_down mn rs i v F M B k u (h.root_is ∙ is) h.fit h.low e.at)
 
     module _ {F B : Digit} {M : Tree} {v : V} {c : Record R V} (is : T ≡ Deep i) (ent : Entered rs s s₁ i q) (ok : q ≡ Ok c) (lev : c ≡ Level F M B v) where
-      pub level_stopped : {m₁ : Moment S} (p r : Result (Unit {0}) Unsound) → Visited w (spine_kind rs k F M B) (moment s₁ b l) m₁ p → is_err p ≡ true → is_err r ≡ true → Visited w (tree_at rs k T) (moment s b l) m₁ r
+      level_stopped : {m₁ : Moment S} (p r : Result (Unit {0}) Unsound) → Visited w (spine_kind rs k F M B) (moment s₁ b l) m₁ p → is_err p ≡ true → is_err r ≡ true → Visited w (tree_at rs k T) (moment s b l) m₁ r
       level_stopped p r vx bad err = as_level r is ent ok lev (not_found v p r vx bad err)
 
-      pub level_visited : {m₁ : Moment S} {p : Result (Unit {0}) Unsound} {u : Unit {0}} {f : Result V Unsound} (r : Result (Unit {0}) Unsound) → Visited w (spine_kind rs k F M B) (moment s₁ b l) m₁ p → p ≡ Ok u
-          → LevelValued w.weigh w.means rs F M B f → Confirmed f v r → Visited w (tree_at rs k T) (moment s b l) m₁ r
-      level_visited r vx good va cf =
-          as_level r is ent ok lev
-          (valued r vx good (λ t h light. va.values (w.items l) t.0.0 t.0.1 t.1 k (k + 1) h.0.0.root_is h.0.1.root_is h.1.root_is h.0.0.fit h.0.1.fit h.1.fit light) cf)
+      module _ {m₁ : Moment S} {p : Result (Unit {0}) Unsound} (front : Visited w (arm_at rs k F) (moment s₁ b l) m₁ p) where
+        pub front_stopped : (r : Result (Unit {0}) Unsound) → is_err p ≡ true → is_err r ≡ true → Visited w (tree_at rs k T) (moment s b l) m₁ r
+        front_stopped r bad err = level_stopped (Err unsound) r (stop (arm_at rs k B) (Err unsound) (Err unsound) (stop (tree_at rs (k + 1) M) p (Err unsound) front bad refl) refl refl) refl err
+
+        module _ {m₂ : Moment S} {rs₁ : List (Record R V)} {u : Unit {0}} {o : Result (Unit {0}) Unsound} (front_ok : p ≡ Ok u) (same₁ : rs₁ ≡ rs) (middle : Visited w (tree_at rs₁ (k + 1) M) m₁ m₂ o) where
+          inner : Visited w (both (arm_at rs k F) (tree_at rs (k + 1) M)) (moment s₁ b l) m₂ o
+          inner = seq o (sole_arm rs k F) front front_ok (same_tree same₁ middle)
+
+          pub middle_stopped : (r : Result (Unit {0}) Unsound) → is_err o ≡ true → is_err r ≡ true → Visited w (tree_at rs k T) (moment s b l) m₂ r
+          middle_stopped r bad err = level_stopped (Err unsound) r (stop (arm_at rs k B) o (Err unsound) inner bad refl) refl err
+
+          module _ {m₃ : Moment S} {rs₂ : List (Record R V)} {u₁ : Unit {0}} {n : Result (Unit {0}) Unsound} (middle_ok : o ≡ Ok u₁) (same₂ : rs₂ ≡ rs₁) (back : Visited w (arm_at rs₂ k B) m₂ m₃ n) where
+            all : Visited w (spine_kind rs k F M B) (moment s₁ b l) m₃ n
+            all = seq n (sole_both (arm_at rs k F) (tree_at rs (k + 1) M) (sole_arm rs k F) (sole_tree rs (k + 1) M)) inner middle_ok (same_arm (same₂ ∙ same₁) back)
+
+            pub back_stopped : (r : Result (Unit {0}) Unsound) → is_err n ≡ true → is_err r ≡ true → Visited w (tree_at rs k T) (moment s b l) m₃ r
+            back_stopped r bad err = level_stopped n r all bad err
+
+            pub level_visited : {rs₃ : List (Record R V)} {u₂ : Unit {0}} {f : Result V Unsound} (r : Result (Unit {0}) Unsound) → n ≡ Ok u₂ → rs₃ ≡ rs₂ → LevelValued w.weigh w.means rs₃ F M B f → Confirmed f v r → Visited w (tree_at rs k T) (moment s b l) m₃ r
+            level_visited {f = f} r good same₃ valued_is cf =
+                let va = subst (λ z. LevelValued w.weigh w.means z F M B f) (same₃ ∙ same₂ ∙ same₁) valued_is in
+                as_level r is ent ok lev
+                (valued r all good (λ t h light. va.values (w.items l) t.0.0 t.0.1 t.1 k (k + 1) h.0.0.root_is h.0.1.root_is h.1.root_is h.0.0.fit h.0.1.fit h.1.fit light) cf)

@@ -5,7 +5,7 @@ use Rattle.std.proofs.ByRecursion.{All-append, All-weaker}
 use Rattle.measures.specs.Law.{heaviest}
 use Rattle.slots.specs.Ghost.{same}
 use Rattle.slots.specs.Values.{mean, wt}
-use Rattle.slots.proofs.Shapes.{ok_same}
+use Rattle.slots.proofs.Shapes.{ok_err, ok_same}
 use Rattle.slots.proofs.Weights.{wt_append}
 use Rattle.std.specs.Prelude.{◌≡◌, true, List, [], ◌++◌, ℕ, ◌+◌, ◌≤◌, length}
 use Rattle.std.specs.declared.result.Result.{Result}
@@ -49,17 +49,29 @@ module _ {R V : Type 0} where
     pub is : L.Is mn it
     pub eq : u ≡ f it
 
+module _ {V : Type 0} where
+  -- a value found, and none
+  pub found_same : {f : Result V Unsound} {x v : V} {r : Result (Unit {0}) Unsound} → f ≡ Ok x → Confirmed (Ok x) v r → Confirmed f v r
+  found_same {v = v} {r} ok cf = subst (λ z. Confirmed z v r) (sym ok) cf
+
+  pub none_found : {f : Result V Unsound} {e : Unsound} {v : V} (r : Result (Unit {0}) Unsound) → f ≡ Err e → is_err r ≡ true → Confirmed f v r
+  none_found (Err d) bad err = record { says = λ ok. ok_err ok bad }
+  none_found (Ok u) bad err = absurd (not_ok u err)
+
 module _ {R I V S : Type 0} {w : Rules R I V S} where
   -- nothing was checked, and there is none
-  pub refused : {K : Kind R V} {m m₁ : Moment S} (r : Result (Unit {0}) Unsound) → unmarked m₁.marks ≤ unmarked m.marks → m₁.leaves ≡ m.leaves → is_err r ≡ true → Nowhere w K m → Visited w K m m₁ r
-  refused {K} {m} {m₁} (Err e) le same-leaves err nowhere = record {
+  pub refused : {K : Kind R V} {m m₁ : Moment S} (r : Result (Unit {0}) Unsound) → unmarked m₁.marks ≤ unmarked m.marks → m₁.source ≡ m.source → is_err r ≡ true → Nowhere w K m → Visited w K m m₁ r
+  refused {K} {m} {m₁} (Err e) le same_source err nowhere = record {
     checked = [];
-    ran = same-leaves;
+    ran = same_source;
     at_most = omega arith;
-    stays = subst (λ q. Stays w.items w.good m.leaves q) (sym same-leaves) stays_same;
+    stays = subst (λ q. Stays w.items w.good m.source q) (sym same_source) stays_same;
     says = λ light. nowhere;
   }
-  refused (Ok u) le same-leaves err nowhere = absurd (not_ok u err)
+  refused (Ok u) le same_source err nowhere = absurd (not_ok u err)
+
+  pub went : {K : Kind R V} {m m₁ : Moment S} {q r : Result (Unit {0}) Unsound} → q ≡ r → Visited w K m m₁ q → Visited w K m m₁ r
+  went {K} {m} {m₁} is v = subst (λ z. Visited w K m m₁ z) is v
 
   -- the visit of what lies below a slot, with the slot
   pub enter_then : {K : Kind R V} {rs : List (Record R V)} {s s₁ : List ℕ} {i : ℕ} {c : Record R V} {b : Budget} {l : S} {m₁ : Moment S} (r : Result (Unit {0}) Unsound)
@@ -123,7 +135,7 @@ module _ {R I V S : Type 0} {w : Rules R I V S} where
   pub seq : {K L : Kind R V} {m m₁ m₂ : Moment S} {q : Result (Unit {0}) Unsound} {u : Unit {0}} (r : Result (Unit {0}) Unsound) → Sole K → Visited w K m m₁ q → q ≡ Ok u → Visited w L m₁ m₂ r → Visited w (both K L) m m₂ r
   seq {K} {L} {m} {m₁} {m₂} r sole vx ok vy = record {
     checked = vx.checked ++ vy.checked;
-    ran = run_append w.checks m.leaves m₁.leaves m₂.leaves vx.checked vy.checked vx.ran vy.ran;
+    ran = run_append w.checks m.source m₁.source m₂.source vx.checked vy.checked vx.ran vy.ran;
     at_most = omega (arith, length-append vx.checked vy.checked, vx.at_most, vy.at_most);
     stays = stays_then vx.stays vy.stays;
     says = λ light. let a = subst (λ z. Cases w K m m₁ vx.checked z) ok (vx.says light) in go r a (vy.says (omega (arith, a.weight)));
@@ -136,9 +148,9 @@ module _ {R I V S : Type 0} {w : Rules R I V S} where
             it = (a.it, b.it);
             is = (a.is, subst (λ q. L.Is (mean w.means q) b.it) vx.stays.same_items b.is);
             each = let p = a.each in let q = b.each in cc;
-            good_rows = All-append (w.good m.leaves) vx.checked vy.checked a.good_rows (All-weaker (w.good m₁.leaves) (w.good m.leaves) vx.stays.was_good vy.checked b.good_rows);
+            good_rows = All-append (w.good m.source) vx.checked vy.checked a.good_rows (All-weaker (w.good m₁.source) (w.good m.source) vx.stays.was_good vy.checked b.good_rows);
             elements = omega (arith, length-append vx.checked vy.checked, a.elements, b.elements);
-            weight = omega (arith, wt_append w.weigh (w.items m.leaves) vx.checked vy.checked, a.weight, b.weight, same_wt);
+            weight = omega (arith, wt_append w.weigh (w.items m.source) vx.checked vy.checked, a.weight, b.weight, same_wt);
             marks = λ j. omega (arith, a.marks j, b.marks j);
             once = λ j h. b.once j (a.once j h);
           }
@@ -150,9 +162,9 @@ module _ {R I V S : Type 0} {w : Rules R I V S} where
           let same_wt = ap (λ q. wt w.weigh q ys) vx.stays.same_items in
           nowhere t.1
           (subst (λ q. L.Is (mean w.means q) t.1) (sym vx.stays.same_items) is.1)
-          (All-weaker (w.good m.leaves) (w.good m₁.leaves) vx.stays.still_good ys (all_right (w.good m.leaves) xs ys gd))
+          (All-weaker (w.good m.source) (w.good m₁.source) vx.stays.still_good ys (all_right (w.good m.source) xs ys gd))
           (omega (arith, few, length-append xs ys, ap length xs-are, a.elements))
-          (omega (arith, wts, wt_append w.weigh (w.items m.leaves) xs ys, ap (wt_at w m) xs-are, a.weight, same_wt))
+          (omega (arith, wts, wt_append w.weigh (w.items m.source) xs ys, ap (wt_at w m) xs-are, a.weight, same_wt))
           (λ j. omega (arith, apart j, a.marks j, ap (λ z. K.names z j) it-is))
 
   -- the first of two failed
@@ -165,7 +177,7 @@ module _ {R I V S : Type 0} {w : Rules R I V S} where
     says = λ light t is gd few wts apart.
         let xs = K.text t.0 in
         let ys = L.text t.1 in
-        vx.says light t.0 is.0 (all_left (w.good m.leaves) xs ys gd) (omega (arith, few, length-append xs ys)) (omega (arith, wts, wt_append w.weigh (w.items m.leaves) xs ys)) (λ j. omega (arith, apart j));
+        vx.says light t.0 is.0 (all_left (w.good m.source) xs ys gd) (omega (arith, few, length-append xs ys)) (omega (arith, wts, wt_append w.weigh (w.items m.source) xs ys)) (λ j. omega (arith, apart j));
   }
   stop L (Err e) (Ok u) vx bad err = absurd (not_ok u err)
   stop L (Ok u) r vx bad err = absurd (not_ok u bad)
@@ -203,6 +215,6 @@ module _ {R I V S : Type 0} {w : Rules R I V S} where
     says = λ light u is gd few wts apart.
         let b = down (mean_at w m) u is in
         let same_text : L.text u ≡ K.text b.it = ap L.text b.eq ∙ texts (mean_at w m) b.it b.is in
-        vx.says light b.it b.is (subst (λ l. AllByRecursion (w.good m.leaves) l) same_text gd) (omega (arith, few, ap length same_text)) (omega (arith, wts, ap (wt_at w m) same_text))
+        vx.says light b.it b.is (subst (λ l. AllByRecursion (w.good m.source) l) same_text gd) (omega (arith, few, ap length same_text)) (omega (arith, wts, ap (wt_at w m) same_text))
         (λ j. omega (arith, apart j, names (mean_at w m) b.it b.is j, ap (λ z. L.names z j) b.eq));
   }

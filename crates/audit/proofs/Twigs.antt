@@ -1,5 +1,5 @@
 -- Visits of leaves, nodes and digits. Assumes nothing.
-use Rattle.std.proofs.Common.{is_err, sym, refl, ap, ◌∙◌, subst, arith}
+use Rattle.std.proofs.Common.{append_assoc, is_err, sym, refl, ap, ◌∙◌, subst, arith}
 use Rattle.std.specs.List.{AllByRecursion}
 use Rattle.std.proofs.lemmas.List.{append-nil}
 use Rattle.measures.specs.Law.{weights}
@@ -7,17 +7,23 @@ use Rattle.slots.specs.Ghost.{Twig, leaf, two, three, Arm, a1, a2, a3, a4, same,
 use Rattle.slots.specs.Values.{flat, mean, wt, node_of}
 use Rattle.slots.specs.Post.{DigitValued}
 use Rattle.slots.proofs.Frames.{same_self}
-use Rattle.slots.proofs.Shapes.{arm_one, arm_two, arm_three, arm_four}
+use Rattle.slots.proofs.Shapes.{err_only, arm_one, arm_two, arm_three, arm_four}
 use Rattle.slots.proofs.Same.{at_same, twig_same, arm_same}
-use Rattle.std.specs.Prelude.{◌≡◌, true, List, [], ◌∷◌, ℕ, zero, suc, ◌+◌, ◌-◌, ◌≤◌, ◌<◌, length}
+use Rattle.std.specs.Prelude.{◌≡◌, true, List, [], ◌∷◌, ◌++◌, Option, Some, None, ℕ, zero, suc, ◌+◌, ◌-◌, ◌≤◌, ◌<◌, length}
 use Rattle.std.specs.declared.result.Result.{Result}
 use Rattle.std.specs.declared.result.Result.TheVariants.{Ok, Err}
+use Rattle.slots.specs.Sides.{peeled}
+use Rattle.slots.specs.declared.records.Peel.{Peel}
+use Rattle.slots.specs.declared.records.Side.TheVariants.{Front}
 use Rattle.audit.specs.Words.{Unsound, Digit, One, Two, Three, Four, Record, Free, Leaf, Node2, Node3, Level}
 use Rattle.audit.specs.Checks.{Judged, Passes, Rules, Stays}
-use Rattle.audit.specs.Visits.{unmarked, Moment, moment, Spent, Spends, Confirmed, Enter, Entered, twig_at, arm_at, node_at, Cases, Visited}
+use Rattle.audit.specs.Visits.{unmarked, Moment, moment, Spent, Spends, Confirmed, Enter, Entered, twig_at, IsArm, arm_at, node_at, Cases, Visited}
 use Rattle.audit.specs.declared.budget.Budget.{Budget}
 use Rattle.audit.proofs.Marks.{enter_marks, enter_once, enter_falls, entered, not_entered}
-use Rattle.audit.proofs.Steps.{Sole, both, worth, below, Made, refused, enter_then, valued, not_found, seen_as}
+use Rattle.audit.proofs.Steps.{Sole, both, worth, below, Made, refused, enter_then, valued, not_found, stop, seen_as}
+
+some_none : {d : Digit} → Some d ≡ None → ⊥
+some_none e = let z : ◌≡◌ {A = ℕ} 0 1 = cc in omega arith
 
 module _ {R V : Type 0} (rs : List (Record R V)) where
   pub sole_twig : (k i : ℕ) → Sole (twig_at rs k i)
@@ -148,37 +154,80 @@ module _ {R I V S : Type 0} {w : Rules R I V S} {rs : List (Record R V)} {s s₁
       }
   leaf_bad (Ok u) ent ok is low judged bad stays step err = absurd (let z : ◌≡◌ {A = ℕ} 0 1 = cc in omega arith)
 
--- the twigs of a digit
-module _ {R I V S : Type 0} {w : Rules R I V S} {rs : List (Record R V)} {k : ℕ} {D : Digit} {m m₁ : Moment S} where
-  pub digit_one : {a : ℕ} (r : Result (Unit {0}) Unsound) → D ≡ One a → Visited w (twig_at rs k a) m m₁ r → Visited w (arm_at rs k D) m m₁ r
-  digit_one {a} r is v =
-      seen_as (arm_at rs k D) r a1 v (λ mn t h. refl) (λ mn t h j. refl)
-      (λ mn t h. record { root_is = ap One h.root_is ∙ sym is; fit = h.fit })
-      (λ mn u h. arm_one (λ A. FitArm mn rs A k → Made (twig_at rs k a) a1 mn A) a (λ x p f. record { it = x; is = record { root_is = p; fit = f }; eq = refl }) u (h.root_is ∙ is) h.fit)
+-- the same digit of the same slots
+pub same_arm : {R I V S : Type 0} {w : Rules R I V S} {rs rs' : List (Record R V)} {k : ℕ} {d : Digit} {m m₁ : Moment S} {r : Result (Unit {0}) Unsound} → rs' ≡ rs → Visited w (arm_at rs' k d) m m₁ r → Visited w (arm_at rs k d) m m₁ r
+same_arm {w = w} {k = k} {d} {m} {m₁} {r} is v = subst (λ q. Visited w (arm_at q k d) m m₁ r) is v
 
-  pub digit_two : {a b : ℕ} (r : Result (Unit {0}) Unsound) → D ≡ Two a b → Visited w (both (twig_at rs k a) (twig_at rs k b)) m m₁ r → Visited w (arm_at rs k D) m m₁ r
-  digit_two {a} {b} r is v =
-      let f : Twig R V × Twig R V → Arm R V = λ t. a2 t.0 t.1 in
-      seen_as (arm_at rs k D) r f v (λ mn t h. refl) (λ mn t h j. refl)
-      (λ mn t h. record { root_is = (let p = h.0.root_is in let q = h.1.root_is in cc); fit = (h.0.fit, h.1.fit) })
-      (λ mn u h. arm_two (λ A. FitArm mn rs A k → Made (both (twig_at rs k a) (twig_at rs k b)) f mn A) a b
-      (λ x y p q g. record { it = (x, y); is = (record { root_is = p; fit = g.0 }, record { root_is = q; fit = g.1 }); eq = refl }) u (h.root_is ∙ is) h.fit)
+-- a digit with one twig before those of another
+module _ {R V : Type 0} where
+  abbrev before : Twig R V → Arm R V → Arm R V
+  before x (a1 y) = a2 x y
+  before x (a2 y z) = a3 x y z
+  before x (a3 y z u) = a4 x y z u
+  before x (a4 y z u t) = a1 x
 
-  pub digit_three : {a b c : ℕ} (r : Result (Unit {0}) Unsound) → D ≡ Three a b c → Visited w (both (both (twig_at rs k a) (twig_at rs k b)) (twig_at rs k c)) m m₁ r → Visited w (arm_at rs k D) m m₁ r
-  digit_three {a} {b} {c} r is v =
-      let f : (Twig R V × Twig R V) × Twig R V → Arm R V = λ t. a3 t.0.0 t.0.1 t.1 in
-      seen_as (arm_at rs k D) r f v (λ mn t h. refl) (λ mn t h j. omega arith)
-      (λ mn t h. record { root_is = (let p = h.0.0.root_is in let q = h.0.1.root_is in let o = h.1.root_is in cc); fit = (h.0.0.fit, h.0.1.fit, h.1.fit) })
-      (λ mn u h. arm_three (λ A. FitArm mn rs A k → Made (both (both (twig_at rs k a) (twig_at rs k b)) (twig_at rs k c)) f mn A) a b c
-      (λ x y z p q o g. record { it = ((x, y), z); is = ((record { root_is = p; fit = g.0 }, record { root_is = q; fit = g.1 }), record { root_is = o; fit = g.2 }); eq = refl }) u (h.root_is ∙ is) h.fit)
+-- the first twig of a digit, and then the others
+module _ {R I V S : Type 0} {w : Rules R I V S} {rs : List (Record R V)} {k : ℕ} {m m₁ : Moment S} where
+  digit_one : {a : ℕ} (r : Result (Unit {0}) Unsound) → Visited w (twig_at rs k a) m m₁ r → Visited w (arm_at rs k (One a)) m m₁ r
+  digit_one {a} r v =
+      seen_as (arm_at rs k (One a)) r a1 v (λ mn t h. refl) (λ mn t h j. refl)
+      (λ mn t h. record { root_is = ap One h.root_is; fit = h.fit })
+      (λ mn u h. arm_one (λ A. FitArm mn rs A k → Made (twig_at rs k a) a1 mn A) a (λ x p f. record { it = x; is = record { root_is = p; fit = f }; eq = refl }) u h.root_is h.fit)
 
-  pub digit_four : {a b c d : ℕ} (r : Result (Unit {0}) Unsound) → D ≡ Four a b c d → Visited w (both (both (both (twig_at rs k a) (twig_at rs k b)) (twig_at rs k c)) (twig_at rs k d)) m m₁ r → Visited w (arm_at rs k D) m m₁ r
-  digit_four {a} {b} {c} {d} r is v =
-      let f : ((Twig R V × Twig R V) × Twig R V) × Twig R V → Arm R V = λ t. a4 t.0.0.0 t.0.0.1 t.0.1 t.1 in
-      seen_as (arm_at rs k D) r f v (λ mn t h. refl) (λ mn t h j. omega arith)
-      (λ mn t h. record { root_is = (let p = h.0.0.0.root_is in let q = h.0.0.1.root_is in let o = h.0.1.root_is in let n = h.1.root_is in cc); fit = (h.0.0.0.fit, h.0.0.1.fit, h.0.1.fit, h.1.fit) })
-      (λ mn u h. arm_four (λ A. FitArm mn rs A k → Made (both (both (both (twig_at rs k a) (twig_at rs k b)) (twig_at rs k c)) (twig_at rs k d)) f mn A) a b c d
-      (λ x y z l p q o n g. record { it = (((x, y), z), l); is = (((record { root_is = p; fit = g.0 }, record { root_is = q; fit = g.1 }), record { root_is = o; fit = g.2 }), record { root_is = n; fit = g.3 }); eq = refl }) u (h.root_is ∙ is) h.fit)
+  digit_two : {a b : ℕ} (r : Result (Unit {0}) Unsound) → Visited w (both (twig_at rs k a) (arm_at rs k (One b))) m m₁ r → Visited w (arm_at rs k (Two a b)) m m₁ r
+  digit_two {a} {b} r v =
+      let f : Twig R V × Arm R V → Arm R V = λ t. before t.0 t.1 in
+      seen_as (arm_at rs k (Two a b)) r f v
+      (λ mn t h. arm_one (λ A. rows_arm (before t.0 A) ≡ rows_twig t.0 ++ rows_arm A) b (λ y q. refl) t.1 h.1.root_is)
+      (λ mn t h j. arm_one (λ A. occ_arm (before t.0 A) j ≡ occ_twig t.0 j + occ_arm A j) b (λ y q. refl) t.1 h.1.root_is)
+      (λ mn t h. arm_one (λ A. FitArm mn rs A k → IsArm rs k (Two a b) mn (before t.0 A)) b (λ y q g. record { root_is = (let p = h.0.root_is in cc); fit = (h.0.fit, g) }) t.1 h.1.root_is h.1.fit)
+      (λ mn u h. arm_two (λ A. FitArm mn rs A k → Made (both (twig_at rs k a) (arm_at rs k (One b))) f mn A) a b
+      (λ x y p q g. record { it = (x, a1 y); is = (record { root_is = p; fit = g.0 }, record { root_is = cc; fit = g.1 }); eq = refl }) u h.root_is h.fit)
+
+  digit_three : {a b c : ℕ} (r : Result (Unit {0}) Unsound) → Visited w (both (twig_at rs k a) (arm_at rs k (Two b c))) m m₁ r → Visited w (arm_at rs k (Three a b c)) m m₁ r
+  digit_three {a} {b} {c} r v =
+      let f : Twig R V × Arm R V → Arm R V = λ t. before t.0 t.1 in
+      seen_as (arm_at rs k (Three a b c)) r f v
+      (λ mn t h. arm_two (λ A. rows_arm (before t.0 A) ≡ rows_twig t.0 ++ rows_arm A) b c (λ y z q o. simp append_assoc) t.1 h.1.root_is)
+      (λ mn t h j. arm_two (λ A. occ_arm (before t.0 A) j ≡ occ_twig t.0 j + occ_arm A j) b c (λ y z q o. omega arith) t.1 h.1.root_is)
+      (λ mn t h. arm_two (λ A. FitArm mn rs A k → IsArm rs k (Three a b c) mn (before t.0 A)) b c (λ y z q o g. record { root_is = (let p = h.0.root_is in cc); fit = (h.0.fit, g.0, g.1) }) t.1 h.1.root_is h.1.fit)
+      (λ mn u h. arm_three (λ A. FitArm mn rs A k → Made (both (twig_at rs k a) (arm_at rs k (Two b c))) f mn A) a b c
+      (λ x y z p q o g. record { it = (x, a2 y z); is = (record { root_is = p; fit = g.0 }, record { root_is = cc; fit = (g.1, g.2) }); eq = refl }) u h.root_is h.fit)
+
+  digit_four : {a b c d : ℕ} (r : Result (Unit {0}) Unsound) → Visited w (both (twig_at rs k a) (arm_at rs k (Three b c d))) m m₁ r → Visited w (arm_at rs k (Four a b c d)) m m₁ r
+  digit_four {a} {b} {c} {d} r v =
+      let f : Twig R V × Arm R V → Arm R V = λ t. before t.0 t.1 in
+      seen_as (arm_at rs k (Four a b c d)) r f v
+      (λ mn t h. arm_three (λ A. rows_arm (before t.0 A) ≡ rows_twig t.0 ++ rows_arm A) b c d (λ y z l q o n. simp append_assoc) t.1 h.1.root_is)
+      (λ mn t h j. arm_three (λ A. occ_arm (before t.0 A) j ≡ occ_twig t.0 j + occ_arm A j) b c d (λ y z l q o n. omega arith) t.1 h.1.root_is)
+      (λ mn t h. arm_three (λ A. FitArm mn rs A k → IsArm rs k (Four a b c d) mn (before t.0 A)) b c d (λ y z l q o n g. record { root_is = (let p = h.0.root_is in cc); fit = (h.0.fit, g.0, g.1, g.2) }) t.1 h.1.root_is h.1.fit)
+      (λ mn u h. arm_four (λ A. FitArm mn rs A k → Made (both (twig_at rs k a) (arm_at rs k (Three b c d))) f mn A) a b c d
+      (λ x y z l p q o n g. record { it = (x, a3 y z l); is = (record { root_is = p; fit = g.0 }, record { root_is = cc; fit = (g.1, g.2, g.3) }); eq = refl }) u h.root_is h.fit)
+
+  moved : {o : Peel} {a : ℕ} {d e : Digit} (r : Result (Unit {0}) Unsound) → o.slot ≡ a → o.rest ≡ Some d → o.rest ≡ Some e → Visited w (both (twig_at rs k o.slot) (arm_at rs k d)) m m₁ r → Visited w (both (twig_at rs k a) (arm_at rs k e)) m m₁ r
+  moved {o} {a} {d} {e} r slot_is rest_is rest_are v =
+      let same_rest : d ≡ e = cc in
+      subst (λ i. Visited w (both (twig_at rs k i) (arm_at rs k e)) m m₁ r) slot_is (subst (λ q. Visited w (both (twig_at rs k o.slot) (arm_at rs k q)) m m₁ r) same_rest v)
+
+  pub digit_last : {o : Peel} (D : Digit) (r : Result (Unit {0}) Unsound) → o ≡ peeled Front D → o.rest ≡ None → Visited w (twig_at rs k o.slot) m m₁ r → Visited w (arm_at rs k D) m m₁ r
+  digit_last (One a) r is none v = digit_one r (subst (λ i. Visited w (twig_at rs k i) m m₁ r) (ap (λ (q : Peel). q.slot) is) v)
+  digit_last (Two a b) r is none v = absurd (some_none (sym (ap (λ (q : Peel). q.rest) is) ∙ none))
+  digit_last (Three a b c) r is none v = absurd (some_none (sym (ap (λ (q : Peel). q.rest) is) ∙ none))
+  digit_last (Four a b c d) r is none v = absurd (some_none (sym (ap (λ (q : Peel). q.rest) is) ∙ none))
+
+  pub digit_more : {o : Peel} {d : Digit} (D : Digit) (r : Result (Unit {0}) Unsound) → o ≡ peeled Front D → o.rest ≡ Some d → Visited w (both (twig_at rs k o.slot) (arm_at rs k d)) m m₁ r → Visited w (arm_at rs k D) m m₁ r
+  digit_more (One a) r is some v = absurd (some_none (sym some ∙ ap (λ (q : Peel). q.rest) is))
+  digit_more (Two a b) r is some v = digit_two r (moved r (ap (λ (q : Peel). q.slot) is) some (ap (λ (q : Peel). q.rest) is) v)
+  digit_more (Three a b c) r is some v = digit_three r (moved r (ap (λ (q : Peel). q.slot) is) some (ap (λ (q : Peel). q.rest) is) v)
+  digit_more (Four a b c d) r is some v = digit_four r (moved r (ap (λ (q : Peel). q.slot) is) some (ap (λ (q : Peel). q.rest) is) v)
+
+  -- the first twig failed
+  pub digit_stopped : {o : Peel} (D : Digit) (q r : Result (Unit {0}) Unsound) → o ≡ peeled Front D → Visited w (twig_at rs k o.slot) m m₁ q → is_err q ≡ true → is_err r ≡ true → Visited w (arm_at rs k D) m m₁ r
+  digit_stopped {o} D q r is v bad err = go o.rest refl
+    where
+      go : (p : Option Digit) → o.rest ≡ p → Visited w (arm_at rs k D) m m₁ r
+      go None none = digit_last D r is none (subst (λ z. Visited w (twig_at rs k o.slot) m m₁ z) (err_only q bad ∙ sym (err_only r err)) v)
+      go (Some d) some = digit_more D r is some (stop (arm_at rs k d) q r v bad err)
 
 -- the parts of a node
 module _ {R I V S : Type 0} {w : Rules R I V S} {rs : List (Record R V)} {h : ℕ} {d : Digit} {v : V} where
@@ -195,7 +244,7 @@ module _ {R I V S : Type 0} {w : Rules R I V S} {rs : List (Record R V)} {h : �
 
   pub node_visited : {m m₁ : Moment S} {q : Result (Unit {0}) Unsound} {u : Unit {0}} {f : Result V Unsound} (r : Result (Unit {0}) Unsound) → (h ≡ 0 → ⊥) → Visited w (arm_at rs (h - 1) d) m m₁ q → q ≡ Ok u
       → DigitValued w.weigh w.means rs d f → Confirmed f v r → Visited w (node_at rs h d v) m m₁ r
-  node_visited {m} r high vx ok va cf = as_node r high (valued r vx ok (λ t is light. va.values (w.items m.leaves) t (h - 1) is.root_is is.fit light) cf)
+  node_visited {m} r high vx ok va cf = as_node r high (valued r vx ok (λ t is light. va.values (w.items m.source) t (h - 1) is.root_is is.fit light) cf)
 
   pub node_stopped : {m m₁ : Moment S} (q r : Result (Unit {0}) Unsound) → (h ≡ 0 → ⊥) → Visited w (arm_at rs (h - 1) d) m m₁ q → is_err q ≡ true → is_err r ≡ true → Visited w (node_at rs h d v) m m₁ r
   node_stopped q r high vx bad err = as_node r high (not_found v q r vx bad err)

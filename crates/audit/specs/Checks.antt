@@ -1,4 +1,4 @@
--- What a checker of leaves promises.
+-- What a check of leaves promises.
 use Rattle.std.specs.Prelude.{◌≢◌, ◌≡◌, List, [], ◌∷◌, ℕ}
 use Rattle.measures.specs.Law.{weights}
 use Rattle.std.specs.declared.result.Result.{Result}
@@ -19,7 +19,7 @@ module _ {R I V : Type 0} (weigh : I → ℕ) (means : List I → V) (items : R 
   pub record Judged (row : R) (v : V) (r : Result ℕ Unsound) : Type 0 where
     pub says : Verdict row v r
 
--- what an audit goes by: what items weigh and mean, what rows stand for, which are good, and what a check does to the checker
+-- what an audit goes by: what items weigh and mean, what rows stand for, which are good, and what a check does to its source
 pub record Rules (R I V S : Type 0) : Type 1 where
   pub weigh : I → ℕ
   pub means : List I → V
@@ -30,7 +30,7 @@ pub record Rules (R I V S : Type 0) : Type 1 where
 abbrev pub rules : {R I V S : Type 0} → (I → ℕ) → (List I → V) → (S → R → List I) → (S → R → Type 0) → (S → R → S → Type 0) → Rules R I V S
 rules weigh means items good checks = record { weigh = weigh; means = means; items = items; good = good; checks = checks }
 
--- What rows stand for and which of them are good is the same in both states of a checker
+-- What rows stand for and which of them are good is the same in both states of a source
 pub record Stays {R I S : Type 0} (items : S → R → List I) (good : S → R → Type 0) (s s' : S) : Type 0 where
   pub same_items : items s' ≡ items s
   pub still_good : (x : R) → good s x → good s' x

@@ -20,7 +20,7 @@ pub record Checked {R I V S : Type 0} (w : Rules R I V S) (s s' : S) (n : ℕ) (
   pub at_most : length rows ≤ n
 
 module _ {R I V S : Type 0} (w : Rules R I V S) (s : S) (rs : List (Record R V)) (roots : List Tree) (free : Link) (limit : ℕ) where
-  -- the slots are sound by what rows mean to the checker
+  -- the slots are sound by what rows mean in the source
   abbrev pub SoundTo : Type 0
   SoundTo = Sound w.weigh w.means (w.items s) (w.good s) rs roots free limit
 

@@ -24,14 +24,14 @@ unmarked marks = occ_list marks 0
 abbrev pub deepest : ℕ
 deepest = 15
 
--- where a visit begins or ends: the marks, what is left of the limits, the checker of leaves
+-- where a visit begins or ends: the marks, what is left of the limits, and the source that leaves are checked by
 pub record Moment (S : Type 0) : Type 0 where
   pub marks : List ℕ
   pub budget : Budget
-  pub leaves : S
+  pub source : S
 
 abbrev pub moment : {S : Type 0} → List ℕ → Budget → S → Moment S
-moment marks budget leaves = record { marks = marks; budget = budget; leaves = leaves }
+moment marks budget source = record { marks = marks; budget = budget; source = source }
 
 -- one element of weight n is within what is left, and taken from it
 pub record Within (b b' : Budget) (n : ℕ) : Type 0 where
@@ -141,17 +141,17 @@ module _ {R V : Type 0} (rs : List (Record R V)) where
 module _ {R I V S : Type 0} (w : Rules R I V S) where
   -- the value of rows, and their weight, at that moment
   abbrev pub mean_at : Moment S → List R → V
-  mean_at m = mean w.means (w.items m.leaves)
+  mean_at m = mean w.means (w.items m.source)
 
   abbrev pub wt_at : Moment S → List R → ℕ
-  wt_at m = wt w.weigh (w.items m.leaves)
+  wt_at m = wt w.weigh (w.items m.source)
 
   -- a ghost of the kind: its rows are the ones checked, its slots were unmarked and now are marked
   pub record Found (K : Kind R V) (m m' : Moment S) (xs : List R) : Type 0 where
     pub it : K.T
     pub is : K.Is (mean_at m) it
     pub each : xs ≡ K.text it
-    pub good_rows : AllByRecursion (w.good m.leaves) xs
+    pub good_rows : AllByRecursion (w.good m.source) xs
     pub elements : m.budget.elements ≡ m'.budget.elements + length xs
     pub weight : m.budget.weight ≡ m'.budget.weight + wt_at m xs
     pub marks : (j : ℕ) → mark m'.marks j ≡ mark m.marks j + K.names it j
@@ -159,7 +159,7 @@ module _ {R I V S : Type 0} (w : Rules R I V S) where
 
   -- there is none of good rows, within what is left of the limits and apart from the marked slots
   abbrev pub Nowhere : Kind R V → Moment S → Type 0
-  Nowhere K m = (t : K.T) → K.Is (mean_at m) t → AllByRecursion (w.good m.leaves) (K.text t) → length (K.text t) ≤ m.budget.elements → wt_at m (K.text t) ≤ m.budget.weight
+  Nowhere K m = (t : K.T) → K.Is (mean_at m) t → AllByRecursion (w.good m.source) (K.text t) → length (K.text t) ≤ m.budget.elements → wt_at m (K.text t) ≤ m.budget.weight
       → ((j : ℕ) → mark m.marks j + K.names t j ≤ 1) → ⊥
 
   abbrev pub Cases : Kind R V → Moment S → Moment S → List R → Result (Unit {0}) Unsound → Type 0
@@ -169,7 +169,7 @@ module _ {R I V S : Type 0} (w : Rules R I V S) where
   -- from m to m' by a visit
   pub record Visited (K : Kind R V) (m m' : Moment S) (r : Result (Unit {0}) Unsound) : Type 0 where
     pub checked : List R
-    pub ran : Run w.checks m.leaves checked m'.leaves
+    pub ran : Run w.checks m.source checked m'.source
     pub at_most : length checked + unmarked m'.marks ≤ unmarked m.marks
-    pub stays : Stays w.items w.good m.leaves m'.leaves
+    pub stays : Stays w.items w.good m.source m'.source
     pub says : m.budget.weight ≤ heaviest → Cases K m m' checked r

@@ -1,8 +1,7 @@
 -- The types of the code, under one roof.
 pub use Rattle.slots.specs.Words.{unsound}
 pub use Rattle.slots.specs.declared.records.Unsound.{Unsound}
-pub use Rattle.slots.specs.declared.records.Link.{Link}
-pub use Rattle.slots.specs.declared.records.Link.TheVariants.{End, To}
+pub use Rattle.slots.specs.Words.{Link}
 pub use Rattle.slots.specs.declared.records.Digit.{Digit}
 pub use Rattle.slots.specs.declared.records.Digit.TheVariants.{One, Two, Three, Four}
 pub use Rattle.slots.specs.declared.records.Tree.{Tree}

@@ -10,19 +10,13 @@ pub struct Budget {
     pub weight: u64,
 }
 
-pub fn spend(budget: &mut Budget, weight: u64) -> Result<(), Unsound>
-    ensures { Spent budget.old budget.new weight result }
-{
-    let left = *budget;
-    if left.elements == 0 {
-        return Err(Unsound);
+impl Budget {
+    pub fn spend(&mut self, weight: u64) -> Result<(), Unsound>
+        ensures { Spent self.old self.new weight result }
+    {
+        let elements = self.elements.checked_sub(1).ok_or(Unsound)?;
+        let weight = self.weight.checked_sub(weight).ok_or(Unsound)?;
+        *self = Budget { elements, weight };
+        Ok(())
     }
-    if left.weight < weight {
-        return Err(Unsound);
-    }
-    *budget = Budget {
-        elements: left.elements - 1,
-        weight: left.weight - weight,
-    };
-    Ok(())
 }

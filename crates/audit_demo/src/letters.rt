@@ -2,31 +2,31 @@
 // The measure is that of the longest line, which tells the order of letters.
 ghost use Rattle.std.specs.Prelude.{◌≡◌, ◌+◌, ◌-◌, ◌^◌, ◌<◌, min, [], ◌∷◌};
 
+use crate::own_source::audit_by;
+use audit::AuditFault;
+use audit::leaves::LeafCheck;
 use measures::Measure;
 use measures::longest_line::LongestLine;
 use slots::records::{Digit, Link, Record, Tree, Unsound};
 use slots::values::{digit_value, level_value};
-use source_audit::leaves::LeafCheck;
-use source_audit::{AuditFault, audit};
 use std::io;
 
-// Takes letters below 128, and counts its checks.
+// Takes letters below 128, and counts its checks: it is its own source.
 #[derive(Clone, Copy)]
-pub struct Ascii;
+pub struct Ascii {
+    count: u64,
+}
 
-impl LeafCheck<u8, LongestLine, u64> for Ascii {
+impl LeafCheck<u8, LongestLine, Ascii> for Ascii {
     ghost items = { λ _ row. row ∷ [] };
 
     ghost good = { λ _ row. row < 128 };
 
-    ghost checks = { λ n _ n'. n' ≡ min (n + 1) (2 ^ 64 - 1) };
+    ghost checks = { λ ascii _ ascii'. ascii'.count ≡ min (ascii.count + 1) (2 ^ 64 - 1) };
 
-    fn check(count: &mut u64, row: u8, value: &LongestLine) -> Result<u64, Unsound> {
-        *count = count.saturating_add(1);
-        if row >= 128 {
-            return Err(Unsound);
-        }
-        if LongestLine::same(&LongestLine::one(row), value) {
+    fn check(ascii: &mut Ascii, row: u8, value: &LongestLine) -> Result<u64, Unsound> {
+        ascii.count = ascii.count.saturating_add(1);
+        if row.is_ascii() && LongestLine::same(&LongestLine::one(row), value) {
             Ok(1)
         } else {
             Err(Unsound)
@@ -50,13 +50,9 @@ fn leaf(row: u8) -> Record<u8, LongestLine> {
 }
 
 fn node(slots: &[Record<u8, LongestLine>], parts: Digit) -> Record<u8, LongestLine> {
-    match digit_value::<u8, LongestLine>(slots, parts) {
-        Ok(value) => match slots::digits::node(parts, value) {
-            Ok(record) => record,
-            Err(_) => Record::Free(Link::End),
-        },
-        Err(_) => Record::Free(Link::End),
-    }
+    digit_value::<u8, LongestLine>(slots, parts)
+        .and_then(|value| parts.node(value))
+        .unwrap_or(Record::Free(None))
 }
 
 fn level(
@@ -65,20 +61,19 @@ fn level(
     middle: Tree,
     back: Digit,
 ) -> Record<u8, LongestLine> {
-    match level_value::<u8, LongestLine>(slots, front, middle, back) {
-        Ok(value) => Record::Level {
+    level_value::<u8, LongestLine>(slots, front, middle, back)
+        .map(|value| Record::Level {
             front,
             middle,
             back,
             value,
-        },
-        Err(_) => Record::Free(Link::End),
-    }
+        })
+        .unwrap_or(Record::Free(None))
 }
 
 // "ab", then a node of a line feed, "c" and "d", then one of a line feed and "e", then "f"; and "g" by itself.
 fn sound() -> Memory {
-    let mut slots: [Record<u8, LongestLine>; 16] = [Record::Free(Link::End); 16];
+    let mut slots: [Record<u8, LongestLine>; 16] = [Record::Free(None); 16];
     slots[1] = leaf(b'a');
     slots[2] = leaf(b'b');
     slots[4] = leaf(b'\n');
@@ -92,38 +87,35 @@ fn sound() -> Memory {
     slots[13] = node(&slots, Digit::Two(14, 15));
     slots[12] = level(&slots, Digit::One(3), Tree::Empty, Digit::One(13));
     slots[0] = level(&slots, Digit::Two(1, 2), Tree::Deep(12), Digit::One(7));
-    slots[9] = Record::Free(Link::To(10));
-    slots[10] = Record::Free(Link::To(11));
+    slots[9] = Record::Free(Some(10));
+    slots[10] = Record::Free(Some(11));
     Memory {
         slots,
         roots: [Tree::Deep(0), Tree::Single(8)],
-        free: Link::To(9),
+        free: Some(9),
         limit: 9,
     }
+}
+
+fn audit_memory(memory: &Memory, scratch: &mut [u8], ascii: &mut Ascii) -> Result<u16, AuditFault> {
+    audit_by::<u8, LongestLine, Ascii>(
+        &memory.slots,
+        &memory.roots,
+        memory.free,
+        memory.limit,
+        scratch,
+        ascii,
+    )
 }
 
 // What the audit says, and of a scratch of 20 bytes how many it left zero and how many as they were.
 fn judge(rt: &HostRuntime, name: &str, memory: &Memory) -> io::Result<()> {
     let mut scratch: [u8; 20] = [7; 20];
-    let mut checks: u64 = 0;
-    let verdict = audit::<u8, LongestLine, u64, Ascii>(
-        &memory.slots,
-        &memory.roots,
-        memory.free,
-        memory.limit,
-        &mut scratch,
-        &mut checks,
-    );
-    let mut zero: u8 = 0;
-    let mut kept: u8 = 0;
-    for byte in scratch {
-        if byte == 0 {
-            zero = zero.saturating_add(1);
-        }
-        if byte == 7 {
-            kept = kept.saturating_add(1);
-        }
-    }
+    let mut ascii = Ascii { count: 0 };
+    let verdict = audit_memory(memory, &mut scratch, &mut ascii);
+    let zero = scratch.iter().filter(|byte| **byte == 0).count();
+    let kept = scratch.iter().filter(|byte| **byte == 7).count();
+    let checks = ascii.count;
     match verdict {
         Ok(elements) => println!(rt;
             "{name}: sound, {elements} elements, {checks} checks, scratch {zero} + {kept}"
@@ -135,8 +127,8 @@ fn judge(rt: &HostRuntime, name: &str, memory: &Memory) -> io::Result<()> {
 
 fn changed(i: usize, record: Record<u8, LongestLine>) -> Memory {
     let mut memory = sound();
-    if i < memory.slots.len() {
-        memory.slots[i] = record;
+    if let Some(slot) = memory.slots.get_mut(i) {
+        *slot = record;
     }
     memory
 }
@@ -150,27 +142,26 @@ pub(crate) fn tell(rt: &HostRuntime) -> io::Result<()> {
 }
 
 fn chains(rt: &HostRuntime) -> io::Result<()> {
-    judge(rt, "a lost slot", &changed(10, Record::Free(Link::End)))?;
+    judge(rt, "a lost slot", &changed(10, Record::Free(None)))?;
     judge(
         rt,
         "a chain with a loop",
-        &changed(11, Record::Free(Link::To(9))),
+        &changed(11, Record::Free(Some(9))),
     )?;
     judge(
         rt,
         "a chain into a tree",
-        &changed(11, Record::Free(Link::To(1))),
+        &changed(11, Record::Free(Some(1))),
     )?;
     judge(
         rt,
         "a chain past the end",
-        &changed(11, Record::Free(Link::To(16))),
+        &changed(11, Record::Free(Some(16))),
     )
 }
 
 fn trees(rt: &HostRuntime) -> io::Result<()> {
-    let good = sound();
-    let slots = good.slots;
+    let slots = sound().slots;
     let again = level(&slots, Digit::Three(1, 2, 2), Tree::Deep(12), Digit::One(7));
     let mut twice = changed(0, again);
     twice.limit = 10;
@@ -201,8 +192,7 @@ fn trees(rt: &HostRuntime) -> io::Result<()> {
 }
 
 fn values(rt: &HostRuntime) -> io::Result<()> {
-    let good = sound();
-    let slots = good.slots;
+    let slots = sound().slots;
     let value = LongestLine::one(b'c');
     let wrong = Record::Node3 {
         a: 4,
@@ -225,35 +215,28 @@ fn values(rt: &HostRuntime) -> io::Result<()> {
     Ok(())
 }
 
-fn seen(i: usize, record: Record<u8, LongestLine>) -> u8 {
-    let memory = changed(i, record);
+fn is_unsound(i: usize, record: Record<u8, LongestLine>) -> bool {
     let mut scratch: [u8; 16] = [7; 16];
-    let mut checks: u64 = 0;
-    match audit::<u8, LongestLine, u64, Ascii>(
-        &memory.slots,
-        &memory.roots,
-        memory.free,
-        memory.limit,
-        &mut scratch,
-        &mut checks,
-    ) {
-        Ok(_) => 0,
-        Err(_) => 1,
-    }
+    audit_memory(&changed(i, record), &mut scratch, &mut Ascii { count: 0 }).is_err()
 }
 
 // Each slot overwritten in four ways. Eight stay sound: the last of the chain is free already, and seven leaves may as well
 // be a "z", since the measure tells letters from line feeds only.
 fn sweep(rt: &HostRuntime) -> io::Result<()> {
-    let good = sound();
-    let slots = good.slots;
+    let slots = sound().slots;
+    let records = [
+        Record::Free(None),
+        leaf(b'z'),
+        node(&slots, Digit::Two(1, 2)),
+        level(&slots, Digit::One(1), Tree::Empty, Digit::One(2)),
+    ];
     let mut unsound: u8 = 0;
-    for i in 0..16 {
-        unsound = unsound.saturating_add(seen(i, Record::Free(Link::End)));
-        unsound = unsound.saturating_add(seen(i, leaf(b'z')));
-        unsound = unsound.saturating_add(seen(i, node(&slots, Digit::Two(1, 2))));
-        let deep = level(&slots, Digit::One(1), Tree::Empty, Digit::One(2));
-        unsound = unsound.saturating_add(seen(i, deep));
+    for i in 0..slots.len() {
+        for record in records {
+            if is_unsound(i, record) {
+                unsound = unsound.saturating_add(1);
+            }
+        }
     }
     println!(rt; "of 64 overwritten slots {unsound} make it unsound")
 }

@@ -5,6 +5,7 @@ use std::io;
 
 mod letters;
 mod marks;
+mod own_source;
 mod proven;
 
 fn main(rt: HostRuntime) -> io::Result<()> {

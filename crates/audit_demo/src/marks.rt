@@ -1,11 +1,11 @@
 // Two marks in one tree, light and heavy: the audit counts weight before it relies on a sum of gaps.
 ghost use Rattle.std.specs.Prelude.{◌≡◌, [], ◌∷◌};
 
+use audit::leaves::LeafCheck;
+use audit::{AuditFault, audit};
 use measures::Measure;
 use measures::mark_totals::{MarkRow, MarkTotals};
 use slots::records::{Digit, Link, Record, Tree, Unsound};
-use source_audit::leaves::LeafCheck;
-use source_audit::{AuditFault, audit};
 use std::io;
 
 // Takes every mark.
@@ -21,7 +21,7 @@ impl LeafCheck<MarkRow, MarkTotals, ()> for AnyMark {
 
     fn check(_: &mut (), row: MarkRow, value: &MarkTotals) -> Result<u64, Unsound> {
         if MarkTotals::same(&MarkTotals::one(row), value) {
-            Ok(row.gap as u64 + 1)
+            Ok(u64::from(row.gap) + 1)
         } else {
             Err(Unsound)
         }
@@ -53,7 +53,7 @@ fn judge(rt: &HostRuntime, first: u32, second: u32) -> io::Result<()> {
     match audit::<MarkRow, MarkTotals, (), AnyMark>(
         &slots,
         &roots,
-        Link::End,
+        None,
         2,
         &mut scratch,
         &mut (),
@@ -74,7 +74,7 @@ fn judge_short(rt: &HostRuntime) -> io::Result<()> {
     let verdict = audit::<MarkRow, MarkTotals, (), AnyMark>(
         &slots,
         &roots,
-        Link::End,
+        None,
         2,
         &mut scratch,
         &mut (),

@@ -2,9 +2,9 @@
 ghost use Rattle.std.specs.Prelude.{◌≡◌, true};
 
 use crate::marks::AnyMark;
+use audit::{AuditFault, audit};
 use measures::mark_totals::{MarkRow, MarkTotals};
 use slots::records::{Digit, Link, Record, Tree};
-use source_audit::{AuditFault, audit};
 
 // Two trees, of two marks and of one, and a free slot.
 pub fn accepts() -> bool
@@ -29,14 +29,14 @@ pub fn accepts() -> bool
             row: MarkRow { gap: 9, label: 0 },
             value: MarkTotals { gaps: 9, count: 1 },
         },
-        Record::Free(Link::End),
+        Record::Free(None),
     ];
     let roots = [Tree::Deep(2), Tree::Single(3)];
     let mut scratch: [u8; 7] = [9; 7];
     match audit::<MarkRow, MarkTotals, (), AnyMark>(
         &slots,
         &roots,
-        Link::To(4),
+        Some(4),
         3,
         &mut scratch,
         &mut (),
@@ -50,21 +50,19 @@ pub fn accepts() -> bool
 pub fn refuses() -> bool
     ensures { result ≡ true }
 {
-    let slots: [Record<MarkRow, MarkTotals>; 1] = [Record::Free(Link::To(0))];
+    let slots: [Record<MarkRow, MarkTotals>; 1] = [Record::Free(Some(0))];
     let roots: [Tree; 0] = [];
     let mut scratch: [u8; 1] = [9; 1];
     match audit::<MarkRow, MarkTotals, (), AnyMark>(
         &slots,
         &roots,
-        Link::To(0),
+        Some(0),
         3,
         &mut scratch,
         &mut (),
     ) {
         Ok(_) => false,
-        Err(fault) => match fault {
-            AuditFault::ShortScratch => false,
-            AuditFault::Unsound => true,
-        },
+        Err(AuditFault::ShortScratch) => false,
+        Err(AuditFault::Unsound) => true,
     }
 }

@@ -5,10 +5,11 @@ use Rattle.std.specs.Option.{option_map}
 use Rattle.plain.specs.Lists.{at}
 use Rattle.plain.specs.Tokens.{end_state}
 use Rattle.measures.specs.Law.{heaviest}
+use Rattle.lexer.specs.Numbers.{number_of}
 use Rattle.lexer.specs.Reading.{read_from}
 use Rattle.lexer.specs.declared.tokens.TokenRow.{TokenRow}
 use Rattle.lexer.specs.RowJoins.{brackets_bound}
-use Rattle.stores.specs.Stores.{Lawful}
+use Rattle.stores.specs.Stores.{Contents, Lawful}
 use Rattle.slots.specs.Ghost.{rows}
 use Rattle.slots.specs.Values.{flat}
 use Rattle.slots.specs.declared.records.Record.{Record}
@@ -130,43 +131,43 @@ holding H got yea am B T X p st = ⊎_elim
     (λ n. absurd (some_none (sym (ok_same n.0 got ∙ yea))))
     (λ y. subst (HeldIn B T (at (waited 0 0 [] (take p T)) 0)) (some_same (ok_same y.1 got ∙ yea)) y.2) (H.holds am B T X p st)
 
-module _ {A S : Type 0} {bytes : S → List ℕ} {capacity reads : S → ℕ} {rs : List (Record PieceRow (TextValue A))} {tr : Tree} {x : Spot} {s : S} {q : Result (Option Held) Unsound} (H : OpenHeld rs tr x q) where
-  pub open_lost : {e : Unsound} {r : Result (Option Other) Unsound} → q ≡ Err e → OpenTold bytes capacity reads rs tr x s s r
-  open_lost bad = record { tells = λ am T X p st. absurd (⊎_elim (λ f. ok_err f.0 bad) (λ f. ok_err f.1 bad) (H.holds am (bytes s) T X p st)); reading = reads_none }
+module _ {A S : Type 0} {contents : S → Contents} {rs : List (Record PieceRow (TextValue A))} {tr : Tree} {x : Spot} {s : S} {q : Result (Option Held) Unsound} (H : OpenHeld rs tr x q) where
+  pub open_lost : {e : Unsound} {r : Result (Option Other) Unsound} → q ≡ Err e → OpenTold contents rs tr x s s r
+  open_lost bad = record { tells = λ am T X p st. absurd (⊎_elim (λ f. ok_err f.0 bad) (λ f. ok_err f.1 bad) (H.holds am (contents s).bytes T X p st)); reading = reads_none }
 
-  pub open_none : {f : Option Held} → q ≡ Ok f → f ≡ None → OpenTold bytes capacity reads rs tr x s s (Ok None)
+  pub open_none : {f : Option Held} → q ≡ Ok f → f ≡ None → OpenTold contents rs tr x s s (Ok None)
   open_none got nay = record {
     tells = λ am T X p st. ⊎_elim
         (λ f. ap (λ (o : Option ℕ). Ok (option_map (λ o. record { offset = o; byte = get_or T o 0 }) o)) (sym f.1))
-        (λ f. absurd (some_none (ok_same f.1 got ∙ nay))) (H.holds am (bytes s) T X p st);
+        (λ f. absurd (some_none (ok_same f.1 got ∙ nay))) (H.holds am (contents s).bytes T X p st);
     reading = reads_none;
   }
 
   module _ {f : Option Held} {h : Held} (got : q ≡ Ok f) (yea : f ≡ Some h) where
-    pub open_no_piece : {r : Result (Option Other) Unsound} → Lawful bytes capacity reads → (Makes h.row → ⊥) → OpenTold bytes capacity reads rs tr x s s r
-    open_no_piece law nay = record { tells = λ am T X p st. absurd (nay (makes law s h.row (holding H got yea am (bytes s) T X p st).good)); reading = reads_none }
+    pub open_no_piece : {r : Result (Option Other) Unsound} → Lawful contents → (Makes h.row → ⊥) → OpenTold contents rs tr x s s r
+    open_no_piece law nay = record { tells = λ am T X p st. absurd (nay (makes law s h.row (holding H got yea am (contents s).bytes T X p st).good)); reading = reads_none }
 
-    module _ {s' : S} {y : Piece} {rm : Result Met Unsound} (same : SamePiece h.row y) (M : OpenMet bytes capacity reads s s' y.address y.length h.start.state h.rank rm) where
-      meeting : (T : List ℕ) (o : Option ℕ) (D : HeldIn (bytes s) T o h) → (m : Met) × (rm ≡ Ok m) × MetIn (end_state 0 D.front) (bytes_of (bytes s) h.row) h.rank m
+    module _ {s' : S} {y : Piece} {rm : Result Met Unsound} (same : SamePiece h.row y) (M : OpenMet contents s s' y.address y.length (number_of h.start.state) h.rank rm) where
+      meeting : (T : List ℕ) (o : Option ℕ) (D : HeldIn (contents s).bytes T o h) → (m : Met) × (rm ≡ Ok m) × MetIn (end_state 0 D.front) (bytes_of (contents s).bytes h.row) h.rank m
       meeting T o D =
-          let within : h.row.address + h.row.length ≤ length (bytes s) = D.good.2 in
-          let st : h.start.state ≡ end_state 0 D.front = D.start.state in
-          let J = M.meets (bytes_of (bytes s) h.row) (same_part (bytes s) h.row same) (omega (arith, same.address_is, same.length_is)) D.some
-          (subst (λ (k : ℕ). h.rank ≤ (read_from k (bytes_of (bytes s) h.row)).unmet) (sym st) D.own) in
-          (J.0, J.1, subst (λ (k : ℕ). MetIn k (bytes_of (bytes s) h.row) h.rank J.0) st J.2)
+          let within : h.row.address + h.row.length ≤ length (contents s).bytes = D.good.2 in
+          let st : number_of h.start.state ≡ end_state 0 D.front = D.start.state in
+          let J = M.meets (bytes_of (contents s).bytes h.row) (same_part (contents s).bytes h.row same) (omega (arith, same.address_is, same.length_is)) D.some
+          (subst (λ (k : ℕ). h.rank ≤ (read_from k (bytes_of (contents s).bytes h.row)).unmet) (sym st) D.own) in
+          (J.0, J.1, subst (λ (k : ℕ). MetIn k (bytes_of (contents s).bytes h.row) h.rank J.0) st J.2)
 
-      pub open_unread : {e : Unsound} {r : Result (Option Other) Unsound} → rm ≡ Err e → OpenTold bytes capacity reads rs tr x s s' r
-      open_unread bad = record { tells = λ am T X p st. absurd (ok_err (meeting T (at (waited 0 0 [] (take p T)) 0) (holding H got yea am (bytes s) T X p st)).1 bad); reading = M.reading }
+      pub open_unread : {e : Unsound} {r : Result (Option Other) Unsound} → rm ≡ Err e → OpenTold contents rs tr x s s' r
+      open_unread bad = record { tells = λ am T X p st. absurd (ok_err (meeting T (at (waited 0 0 [] (take p T)) 0) (holding H got yea am (contents s).bytes T X p st)).1 bad); reading = M.reading }
 
-      pub open_told : {m : Met} {n : ℕ} → rm ≡ Ok m → n ≡ min (h.start.offset + m.index) 4294967295 → OpenTold bytes capacity reads rs tr x s s' (Ok (Some (record { offset = n; byte = m.byte })))
+      pub open_told : {m : Met} {n : ℕ} → rm ≡ Ok m → n ≡ min (h.start.offset + m.index) 4294967295 → OpenTold contents rs tr x s s' (Ok (Some (record { offset = n; byte = m.byte })))
       open_told {m} {n} got-m n-is = record {
         tells = λ am T X p st.
-            let D = holding H got yea am (bytes s) T X p st in
+            let D = holding H got yea am (contents s).bytes T X p st in
             let J = meeting T (at (waited 0 0 [] (take p T)) 0) D in
             let m-is : J.0 ≡ m = ok_same J.1 got-m in
-            let N : MetIn (end_state 0 D.front) (bytes_of (bytes s) h.row) h.rank m = subst (MetIn (end_state 0 D.front) (bytes_of (bytes s) h.row) h.rank) m-is J.2 in
+            let N : MetIn (end_state 0 D.front) (bytes_of (contents s).bytes h.row) h.rank m = subst (MetIn (end_state 0 D.front) (bytes_of (contents s).bytes h.row) h.rank) m-is J.2 in
             let W : List ℕ = D.front in
-            let Y : List ℕ = bytes_of (bytes s) h.row in
+            let Y : List ℕ = bytes_of (contents s).bytes h.row in
             let all : length T ≡ length W + (length Y + length D.back) = ap length D.text ∙ length-append W (Y ++ D.back) ∙ ap (λ (k : ℕ). length W + k) (length-append Y D.back) in
             let there : n ≡ length W + m.index = omega (arith, D.start.offset, N.within, light_text X) in
             let o_is : at (waited 0 0 [] (take p T)) 0 ≡ Some n = D.same ∙ N.place (length W) ∙ ap Some (sym there) in

@@ -10,7 +10,10 @@ use Rattle.plain.specs.Tokens.{step, end_state}
 use Rattle.plain.specs.declared.answers.Bracket.{Bracket}
 use Rattle.plain.specs.declared.answers.Bracket.TheVariants.{Paired}
 use Rattle.measures.specs.Counts.{count_append}
+use Rattle.lexer.specs.Numbers.{number_of, number_same}
+use Rattle.lexer.specs.declared.states.State.TheVariants.{Open, Close}
 use Rattle.lexer.specs.Reading.{read_from}
+use Rattle.stores.specs.Stores.{Contents}
 use Rattle.slots.specs.Ghost.{rows}
 use Rattle.slots.specs.Values.{flat}
 use Rattle.slots.specs.declared.records.Record.{Record}
@@ -61,13 +64,13 @@ module _ {B T : List ℕ} {R : List PieceRow} {p : ℕ} {x : Spot} (spells : fla
   abbrev b : ℕ
   b = x.stop.byte
 
-  pub bracket_none : (x.stop.after.state ≡ 6 → ⊥) → (x.stop.after.state ≡ 7 → ⊥) → bracket_of_offset T p ≡ None
+  pub bracket_none : (number_of x.stop.after.state ≡ 6 → ⊥) → (number_of x.stop.after.state ≡ 7 → ⊥) → bracket_of_offset T p ≡ None
   bracket_none e f =
       ap (λ (t : List ℕ). bracket_of_offset t p) (parted_text spells st)
       ∙ no_bracket (take p T) b (drop (suc p) T) p (long_front spells st)
       (ne_eqb (step (end_state 0 (take p T)) b).0 6 (λ h. e (led_to spells st ∙ h))) (ne_eqb (step (end_state 0 (take p T)) b).0 7 (λ h. f (led_to spells st ∙ h)))
 
-  pub bracket_open : (o : Option Other) → x.stop.after.state ≡ 6 → ((o ≡ None) × ((read_from 6 (drop (suc p) T)).strays ≡ 0)) ⊎ ((y : Other) × (o ≡ Some y) × StrayIs (drop (suc p) T) (suc p) y)
+  pub bracket_open : (o : Option Other) → number_of x.stop.after.state ≡ 6 → ((o ≡ None) × ((read_from 6 (drop (suc p) T)).strays ≡ 0)) ⊎ ((y : Other) × (o ≡ Some y) × StrayIs (drop (suc p) T) (suc p) y)
       → bracket_of_offset T p ≡ Some (after_open_of b o)
   bracket_open o is = ⊎_elim
       (λ f.
@@ -88,7 +91,7 @@ module _ {B T : List ℕ} {R : List PieceRow} {p : ℕ} {x : Spot} (spells : fla
       ∙ ap₂ (λ (m n : ℕ). Some (Paired y.offset (match_of m n))) (byte_there spells st) second
       ∙ ap (λ (q : Option Other). Some (after_open_of b q)) (sym f.1))
 
-  pub bracket_close : x.stop.after.state ≡ 7 → bracket_of_offset T p ≡ Some (before_close_of b (last_open T p))
+  pub bracket_close : number_of x.stop.after.state ≡ 7 → bracket_of_offset T p ≡ Some (before_close_of b (last_open T p))
   bracket_close is = by (at (waited 0 0 [] (take p T)) 0) refl
     where
       shut : (step (end_state 0 (take p T)) b).0 ≡ 7
@@ -106,56 +109,56 @@ module _ {B T : List ℕ} {R : List PieceRow} {p : ℕ} {x : Spot} (spells : fla
           ∙ ap (λ (m : ℕ). Some (Paired o (match_of (get_or T o 0) m))) (byte_there spells st)
           ∙ ap (λ (o : Option ℕ). Some (before_close_of b (option_map (λ o. record { offset = o; byte = get_or T o 0 }) o))) (sym e)
 
-module _ {A S : Type 0} {am : List ℕ → A} {bytes : S → List ℕ} {capacity reads : S → ℕ} {rs : List (Record PieceRow (TextValue A))} {tr : Tree} {p : ℕ} {s s₁ : S} {q : Result Spot Unsound}
-    (F : SpotFound bytes capacity reads am rs tr p s s₁ q) where
-  one_reading : Reads bytes capacity reads 768 s s₁
+module _ {A S : Type 0} {am : List ℕ → A} {contents : S → Contents} {rs : List (Record PieceRow (TextValue A))} {tr : Tree} {p : ℕ} {s s₁ : S} {q : Result Spot Unsound}
+    (F : SpotFound contents am rs tr p s s₁ q) where
+  one_reading : Reads contents 768 s s₁
   one_reading = record { few = omega (arith, F.reading.few); same_bytes = F.reading.same_bytes; same_capacity = F.reading.same_capacity }
 
-  pub in_lost : {e : Unsound} {r : Result (Option Bracket) Unsound} → q ≡ Err e → Answered bytes capacity reads 768 am rs tr (λ t. p < length t) (λ t. bracket_of_offset t p) s s₁ r
+  pub in_lost : {e : Unsound} {r : Result (Option Bracket) Unsound} → q ≡ Err e → Answered contents 768 am rs tr (λ t. p < length t) (λ t. bracket_of_offset t p) s s₁ r
   in_lost bad = record { tells = λ T X h. absurd (ok_err (F.finds T X h).1 bad); reading = one_reading }
 
   module _ {x : Spot} (got : q ≡ Ok x) where
-    spotted : (T : List ℕ) (X : TextAt am (bytes s) rs tr T) → p < length T → StandsAt (bytes s) (rows X.t) p x
-    spotted T X h = let f = F.finds T X h in subst (StandsAt (bytes s) (rows X.t) p) (ok_same f.1 got) f.2
+    spotted : (T : List ℕ) (X : TextAt am (contents s).bytes rs tr T) → p < length T → StandsAt (contents s).bytes (rows X.t) p x
+    spotted T X h = let f = F.finds T X h in subst (StandsAt (contents s).bytes (rows X.t) p) (ok_same f.1 got) f.2
 
     -- after the store was read
-    later_on : (T : List ℕ) (X : TextAt am (bytes s) rs tr T) → p < length T → (Y : TextAt am (bytes s₁) rs tr T) × StandsAt (bytes s₁) (rows Y.t) p x
+    later_on : (T : List ℕ) (X : TextAt am (contents s).bytes rs tr T) → p < length T → (Y : TextAt am (contents s₁).bytes rs tr T) × StandsAt (contents s₁).bytes (rows Y.t) p x
     later_on T X h = subst (λ (l : List ℕ). (Y : TextAt am l rs tr T) × StandsAt l (rows Y.t) p x) (sym F.reading.same_bytes) (X, spotted T X h)
 
-    pub in_none : {n : ℕ} → n ≡ x.stop.after.state → (n ≡ 6 → ⊥) → (n ≡ 7 → ⊥) → Answered bytes capacity reads 768 am rs tr (λ t. p < length t) (λ t. bracket_of_offset t p) s s₁ (Ok None)
-    in_none n-is e f = record { tells = λ T X h. ap Ok (sym (bracket_none X.spells (spotted T X h) (λ z. e (n-is ∙ z)) (λ z. f (n-is ∙ z)))); reading = one_reading }
+    pub in_none : (x.stop.after.state ≡ Open → ⊥) → (x.stop.after.state ≡ Close → ⊥) → Answered contents 768 am rs tr (λ t. p < length t) (λ t. bracket_of_offset t p) s s₁ (Ok None)
+    in_none e f = record { tells = λ T X h. ap Ok (sym (bracket_none X.spells (spotted T X h) (λ z. e (number_same z)) (λ z. f (number_same z)))); reading = one_reading }
 
-    module _ {s₂ : S} {rc : Result (Option Other) Unsound} (C : CloseTold bytes capacity reads am rs tr p x s₁ s₂ rc) where
-      open_reading : Reads bytes capacity reads 768 s s₂
+    module _ {s₂ : S} {rc : Result (Option Other) Unsound} (C : CloseTold contents am rs tr p x s₁ s₂ rc) where
+      open_reading : Reads contents 768 s s₂
       open_reading = record { few = omega (arith, F.reading.few, C.reading.few); same_bytes = C.reading.same_bytes ∙ F.reading.same_bytes; same_capacity = C.reading.same_capacity ∙ F.reading.same_capacity }
 
-      pub in_open_lost : {e : Unsound} {r : Result (Option Bracket) Unsound} → rc ≡ Err e → Answered bytes capacity reads 768 am rs tr (λ t. p < length t) (λ t. bracket_of_offset t p) s s₂ r
+      pub in_open_lost : {e : Unsound} {r : Result (Option Bracket) Unsound} → rc ≡ Err e → Answered contents 768 am rs tr (λ t. p < length t) (λ t. bracket_of_offset t p) s s₂ r
       in_open_lost bad = record {
         tells = λ T X h. let L = later_on T X h in absurd (⊎_elim (λ f. ok_err f.0 bad) (λ f. ok_err f.1 bad) (C.tells T L.0 L.1));
         reading = open_reading;
       }
 
-      pub in_open : {o : Option Other} {b : Bracket} → x.stop.after.state ≡ 6 → rc ≡ Ok o → b ≡ after_open_of x.stop.byte o → Answered bytes capacity reads 768 am rs tr (λ t. p < length t) (λ t. bracket_of_offset t p) s s₂ (Ok (Some b))
+      pub in_open : {o : Option Other} {b : Bracket} → x.stop.after.state ≡ Open → rc ≡ Ok o → b ≡ after_open_of x.stop.byte o → Answered contents 768 am rs tr (λ t. p < length t) (λ t. bracket_of_offset t p) s s₂ (Ok (Some b))
       in_open {o} is go b-is = record {
         tells = λ T X h.
             let L = later_on T X h in
-            ap Ok (ap Some b-is ∙ sym (bracket_open L.0.spells L.1 o is
+            ap Ok (ap Some b-is ∙ sym (bracket_open L.0.spells L.1 o (ap number_of is)
             (⊎_elim (λ f. inl (ok_same go f.0, f.1)) (λ f. inr (f.0, ok_same go f.1, f.2)) (C.tells T L.0 L.1))));
         reading = open_reading;
       }
 
-    module _ {s₂ : S} {ro : Result (Option Other) Unsound} (O : OpenTold bytes capacity reads rs tr x s₁ s₂ ro) where
-      close_reading : Reads bytes capacity reads 768 s s₂
+    module _ {s₂ : S} {ro : Result (Option Other) Unsound} (O : OpenTold contents rs tr x s₁ s₂ ro) where
+      close_reading : Reads contents 768 s s₂
       close_reading = record { few = omega (arith, F.reading.few, O.reading.few); same_bytes = O.reading.same_bytes ∙ F.reading.same_bytes; same_capacity = O.reading.same_capacity ∙ F.reading.same_capacity }
 
-      pub in_close_lost : {e : Unsound} {r : Result (Option Bracket) Unsound} → ro ≡ Err e → Answered bytes capacity reads 768 am rs tr (λ t. p < length t) (λ t. bracket_of_offset t p) s s₂ r
+      pub in_close_lost : {e : Unsound} {r : Result (Option Bracket) Unsound} → ro ≡ Err e → Answered contents 768 am rs tr (λ t. p < length t) (λ t. bracket_of_offset t p) s s₂ r
       in_close_lost bad = record { tells = λ T X h. let L = later_on T X h in absurd (ok_err (O.tells am T L.0 p L.1) bad); reading = close_reading }
 
-      pub in_close : {o : Option Other} {b : Bracket} → x.stop.after.state ≡ 7 → ro ≡ Ok o → b ≡ before_close_of x.stop.byte o → Answered bytes capacity reads 768 am rs tr (λ t. p < length t) (λ t. bracket_of_offset t p) s s₂ (Ok (Some b))
+      pub in_close : {o : Option Other} {b : Bracket} → x.stop.after.state ≡ Close → ro ≡ Ok o → b ≡ before_close_of x.stop.byte o → Answered contents 768 am rs tr (λ t. p < length t) (λ t. bracket_of_offset t p) s s₂ (Ok (Some b))
       in_close {o} is go b-is = record {
         tells = λ T X h.
             let L = later_on T X h in
             let o_is : o ≡ last_open T p = ok_same go (O.tells am T L.0 p L.1) in
-            ap Ok (ap Some (b-is ∙ ap (before_close_of x.stop.byte) o_is) ∙ sym (bracket_close L.0.spells L.1 is));
+            ap Ok (ap Some (b-is ∙ ap (before_close_of x.stop.byte) o_is) ∙ sym (bracket_close L.0.spells L.1 (ap number_of is)));
         reading = close_reading;
       }

@@ -5,10 +5,12 @@ use Rattle.std.proofs.lemmas.List.{take-append-drop, get_or_append_left, get_or-
 use Rattle.std.proofs.lemmas.Bool.{ltb-false, leb-true, leb-false, le-leb}
 use Rattle.plain.specs.Tokens.{step, end_state}
 use Rattle.measures.specs.declared.totals.Totals.{Totals}
+use Rattle.lexer.specs.Numbers.{number_of}
+use Rattle.lexer.specs.States.{end_bound, end_read}
 use Rattle.lexer.specs.Reading.{read_from, reading, row_at}
 use Rattle.lexer.specs.declared.tokens.TokenRow.{TokenRow}
 use Rattle.lexer.specs.RowValues.{row_at_lem}
-use Rattle.stores.specs.Stores.{Lawful}
+use Rattle.stores.specs.Stores.{Contents, Lawful}
 use Rattle.slots.specs.Ghost.{rows}
 use Rattle.slots.specs.Values.{flat}
 use Rattle.slots.specs.declared.records.Record.{Record}
@@ -24,56 +26,52 @@ use Rattle.asking.specs.Rows.{RowFound}
 use Rattle.asking.specs.Texts.{TextAt, Reads}
 use Rattle.asking.proofs.PartPaths.{reads_none}
 use Rattle.asking.proofs.TextPlaces.{Inside, inside, never_lost, past_all, past, low, high, before_is, front, row_size}
-use Rattle.token_questions.specs.Scans.{reached, Stops, Scanned}
+use Rattle.token_questions.specs.Scans.{Stops, Scanned}
 use Rattle.token_questions.specs.declared.scan.Goal.TheVariants.{Bytes}
 use Rattle.token_questions.specs.declared.scan.Stop.{Stop}
 use Rattle.token_questions.proofs.Counted.{end_append, end_more}
 use Rattle.bracket_answers.specs.Spots.{StandsAt, SpotFound}
 use Rattle.bracket_answers.specs.declared.spot.Spot.{Spot}
 
-pub end_read : (s : ℕ) (bs : List ℕ) → (read_from s bs).state ≡ end_state s bs
-unfolding read_from
-end_read s bs = refl
-
 -- a good row makes a piece
-pub makes : {S : Type 0} {bytes : S → List ℕ} {capacity reads : S → ℕ} → Lawful bytes capacity reads → (s : S) (x : PieceRow) → Good (bytes s) x → Makes x
+pub makes : {S : Type 0} {contents : S → Contents} → Lawful contents → (s : S) (x : PieceRow) → Good (contents s).bytes x → Makes x
 makes law s x g = let within : x.address + x.length ≤ _ = g.2 in record { some = g.0; short = g.1; ends = omega (arith, law.within s, law.small s) }
 
 pub same_part : (B : List ℕ) (x : PieceRow) {y : Piece} → SamePiece x y → bytes_of B x ≡ take y.length (drop y.address B)
 same_part B x same = sym (ap₂ (λ (a n : ℕ). take n (drop a B)) same.address_is same.length_is)
 
-module _ {A S : Type 0} {am : List ℕ → A} {bytes : S → List ℕ} {capacity reads : S → ℕ} {rs : List (Record PieceRow (TextValue A))} {tr : Tree} (p : ℕ) {v w : TextValue A} {q : Result (Option PieceRow) Unsound} {s : S}
+module _ {A S : Type 0} {am : List ℕ → A} {contents : S → Contents} {rs : List (Record PieceRow (TextValue A))} {tr : Tree} (p : ℕ) {v w : TextValue A} {q : Result (Option PieceRow) Unsound} {s : S}
     (start : v ≡ text_means am []) (F : RowFound (λ _. 1) (text_means am) (past p) rs tr v w q) where
-  pub spot_lost : {e : Unsound} {r : Result Spot Unsound} → q ≡ Err e → SpotFound bytes capacity reads am rs tr p s s r
+  pub spot_lost : {e : Unsound} {r : Result Spot Unsound} → q ≡ Err e → SpotFound contents am rs tr p s s r
   spot_lost bad = record { finds = λ T X h. absurd (never_lost start F X bad); reading = reads_none }
 
-  pub spot_none : {f : Option PieceRow} {r : Result Spot Unsound} → q ≡ Ok f → f ≡ None → SpotFound bytes capacity reads am rs tr p s s r
+  pub spot_none : {f : Option PieceRow} {r : Result Spot Unsound} → q ≡ Ok f → f ≡ None → SpotFound contents am rs tr p s s r
   spot_none got nay = record {
     finds = λ T X h. absurd (⊎_elim (λ (e : T ≡ []). omega (arith, ap length e)) (λ e. omega (arith, ltb-false p (length T) e)) (past_all start F X got nay).1);
     reading = reads_none;
   }
 
   module _ {f : Option PieceRow} {x : PieceRow} (got : q ≡ Ok f) (yea : f ≡ Some x) where
-    pub spot_no_piece : {r : Result Spot Unsound} → Lawful bytes capacity reads → (Makes x → ⊥) → SpotFound bytes capacity reads am rs tr p s s r
+    pub spot_no_piece : {r : Result Spot Unsound} → Lawful contents → (Makes x → ⊥) → SpotFound contents am rs tr p s s r
     spot_no_piece law nay = record { finds = λ T X h. absurd (nay (makes law s x (inside start F X got yea).good)); reading = reads_none }
 
     module _ {s' : S} {y : Piece} {k count : ℕ} {row first : TokenRow} {rj : Result Stop Unsound} (same : SamePiece x y) (row_is : row ≡ row_at w.left.right 0) (k_is : k ≡ p - w.left.left.bytes)
-        (count_is : count ≡ min (k + 1) 4294967295) (first-is : first ≡ read_from row.state []) (E : Scanned bytes capacity reads s s' y.address y.length first (Bytes count) rj) where
-      pub spot_reads : Reads bytes capacity reads 256 s s'
+        (count_is : count ≡ min (k + 1) 4294967295) (first-is : first ≡ read_from (number_of row.state) []) (E : Scanned contents s s' y.address y.length first (Bytes count) rj) where
+      pub spot_reads : Reads contents 256 s s'
       spot_reads = record { few = E.few; same_bytes = E.same_bytes; same_capacity = E.same_capacity }
 
       -- the byte was reached
-      record Reached (T : List ℕ) (X : TextAt am (bytes s) rs tr T) : Type 0 where
-        pub I : Inside am (past p) (bytes s) (rows X.t) T w x
+      record Reached (T : List ℕ) (X : TextAt am (contents s).bytes rs tr T) : Type 0 where
+        pub I : Inside am (past p) (contents s).bytes (rows X.t) T w x
         pub stop : Stop
         pub ok : rj ≡ Ok stop
-        pub state : row.state ≡ end_state 0 (flat (bytes_of (bytes s)) I.xs)
-        pub stops : Stops (end_state 0 (flat (bytes_of (bytes s)) I.xs)) [] (bytes_of (bytes s) x) (Bytes count) stop
-        pub index : p ≡ length (flat (bytes_of (bytes s)) I.xs) + stop.index
+        pub state : number_of row.state ≡ end_state 0 (flat (bytes_of (contents s).bytes) I.xs)
+        pub stops : Stops (end_state 0 (flat (bytes_of (contents s).bytes) I.xs)) [] (bytes_of (contents s).bytes x) (Bytes count) stop
+        pub index : p ≡ length (flat (bytes_of (contents s).bytes) I.xs) + stop.index
 
-      at_byte : {T : List ℕ} (X : TextAt am (bytes s) rs tr T) → Reached T X
+      at_byte : {T : List ℕ} (X : TextAt am (contents s).bytes rs tr T) → Reached T X
       at_byte X =
-          let B : List ℕ = bytes s in
+          let B : List ℕ = (contents s).bytes in
           let I = inside start F X got yea in
           let L : List ℕ = flat (bytes_of B) I.xs in
           let lo = low p I in
@@ -83,7 +81,7 @@ module _ {A S : Type 0} {am : List ℕ → A} {bytes : S → List ℕ} {capacity
           let ends : x.address + x.length ≤ length B = I.good.2 in
           let count-k : count ≡ k + 1 = omega arith in
           let rows_are : w.left.right ≡ reading L = ap (λ (u : TextValue A). u.left.right) I.place in
-          let state : row.state ≡ end_state 0 L = ap (λ (r : TokenRow). r.state) (row_is ∙ row_at_lem w.left.right L 0 (omega arith) rows_are) ∙ end_read 0 L in
+          let state : number_of row.state ≡ end_state 0 L = ap (λ (r : TokenRow). number_of r.state) (row_is ∙ row_at_lem w.left.right L 0 (omega arith) rows_are) ∙ end_read 0 L (omega arith) in
           let part = same_part B x same in
           let long : length (bytes_of B x) ≡ x.length = row_size B x I.good in
           let Z = E.stops (end_state 0 L) [] (bytes_of B x) part (first-is ∙ ap (λ (q₀ : ℕ). read_from q₀ []) state) (omega (arith, same.address_is, same.length_is)) (omega (arith, same.length_is))
@@ -92,15 +90,15 @@ module _ {A S : Type 0} {am : List ℕ → A} {bytes : S → List ℕ} {capacity
           let least : Z.0.index ≤ k = ⊎_elim (λ (e : Z.0.index ≡ 0). omega arith) (λ e. omega (arith, leb-false count Z.0.index e)) Z.2.no in
           record { I = I; stop = Z.0; ok = Z.1; state = state; stops = Z.2; index = omega arith }
 
-      pub spot_unread : {e : Unsound} {r : Result Spot Unsound} → rj ≡ Err e → SpotFound bytes capacity reads am rs tr p s s' r
+      pub spot_unread : {e : Unsound} {r : Result Spot Unsound} → rj ≡ Err e → SpotFound contents am rs tr p s s' r
       spot_unread bad = record { finds = λ T X h. absurd (ok_err (at_byte X).ok bad); reading = spot_reads }
 
-      pub spot_found : {stop : Stop} → rj ≡ Ok stop → SpotFound bytes capacity reads am rs tr p s s' (Ok (record { row = x; start = record { offset = w.left.left.bytes; state = row.state }; stop = stop }))
+      pub spot_found : {stop : Stop} → rj ≡ Ok stop → SpotFound contents am rs tr p s s' (Ok (record { row = x; start = record { offset = w.left.left.bytes; state = row.state }; stop = stop }))
       spot_found {stop} gj = record {
         finds = λ T X h.
             let R = at_byte X in
             let z : R.stop ≡ stop = ok_same R.ok gj in
-            let D : Stops (end_state 0 (flat (bytes_of (bytes s)) R.I.xs)) [] (bytes_of (bytes s) x) (Bytes count) stop = subst (Stops (end_state 0 (flat (bytes_of (bytes s)) R.I.xs)) [] (bytes_of (bytes s) x) (Bytes count)) z R.stops in (
+            let D : Stops (end_state 0 (flat (bytes_of (contents s).bytes) R.I.xs)) [] (bytes_of (contents s).bytes x) (Bytes count) stop = subst (Stops (end_state 0 (flat (bytes_of (contents s).bytes) R.I.xs)) [] (bytes_of (contents s).bytes x) (Bytes count)) z R.stops in (
               record { row = x; start = record { offset = w.left.left.bytes; state = row.state }; stop = stop },
               refl,
               record {
@@ -109,8 +107,8 @@ module _ {A S : Type 0} {am : List ℕ → A} {bytes : S → List ℕ} {capacity
                 parts = R.I.parts;
                 good = R.I.good;
                 start = record { offset = ap (λ (u : Totals). u.bytes) (before_is R.I); state = R.state };
-                place = R.index ∙ ap (λ (u : Stop). length (flat (bytes_of (bytes s)) R.I.xs) + u.index) z;
-                within = omega (arith, D.within, row_size (bytes s) x R.I.good);
+                place = R.index ∙ ap (λ (u : Stop). length (flat (bytes_of (contents s).bytes) R.I.xs) + u.index) z;
+                within = omega (arith, D.within, row_size (contents s).bytes x R.I.good);
                 byte = D.byte;
                 before = D.before;
                 after = D.after;
@@ -162,9 +160,9 @@ module _ {B T : List ℕ} {R : List PieceRow} {p : ℕ} {x : Spot} (spells : fla
   long_front = omega (arith, length-take p T, in_text)
 
   -- the state that the byte leads to
-  pub led_to : x.stop.after.state ≡ (step (end_state 0 (take p T)) x.stop.byte).0
+  pub led_to : number_of x.stop.after.state ≡ (step (end_state 0 (take p T)) x.stop.byte).0
   led_to =
       let more : x.stop.index + 1 ≡ suc x.stop.index = omega arith in
-      ap (λ (r : TokenRow). r.state) at.after ∙ end_read (end_state 0 L) (take (x.stop.index + 1) Y) ∙ ap (λ (n : ℕ). end_state (end_state 0 L) (take n Y)) more
+      ap (λ (r : TokenRow). number_of r.state) at.after ∙ end_read (end_state 0 L) (take (x.stop.index + 1) Y) (end_bound 0 L (omega arith)) ∙ ap (λ (n : ℕ). end_state (end_state 0 L) (take n Y)) more
       ∙ end_more (end_state 0 L) x.stop.index Y (omega (arith, long_row, at.within))
       ∙ ap₂ (λ (q b : ℕ). (step q b).0) (sym (ap (end_state 0) up_to ∙ end_append 0 L (take x.stop.index Y))) (sym at.byte)

@@ -3,8 +3,10 @@ use Rattle.std.specs.Prelude.{◌≡◌, ℕ, ◌+◌, ◌-◌, ◌<◌, ◌≤�
 use Rattle.std.specs.Option.{option_map}
 use Rattle.plain.specs.Lists.{at}
 use Rattle.plain.specs.Tokens.{end_state}
+use Rattle.lexer.specs.Numbers.{number_of}
 use Rattle.lexer.specs.Reading.{read_from}
 use Rattle.lexer.specs.declared.tokens.TokenRow.{TokenRow}
+use Rattle.stores.specs.Stores.{Contents}
 use Rattle.slots.specs.Ghost.{rows}
 use Rattle.slots.specs.declared.records.Record.{Record}
 use Rattle.slots.specs.declared.records.Tree.{Tree}
@@ -23,7 +25,7 @@ use Rattle.bracket_answers.specs.declared.backward.Met.{Met}
 
 -- the byte b at i if it is an open after which as many wait as the rank
 abbrev pub kept : Met → TokenRow → ℕ → ℕ → ℕ → Met
-kept m r rank i b = cond (r.state == 6 && r.unmet == rank) (record { index = i; byte = b }) m
+kept m r rank i b = cond (number_of r.state == 6 && r.unmet == rank) (record { index = i; byte = b }) m
 
 -- Of the opens that wait after the list bs, read from state q, this is the one of that rank: the first has rank 1.
 pub record MetIn (q : ℕ) (bs : List ℕ) (rank : ℕ) (m : Met) : Type 0 where
@@ -50,11 +52,11 @@ pub record OpenHeld {A : Type 0} (rs : List (Record PieceRow (TextValue A))) (tr
   pub holds : (am : List ℕ → A) (B T : List ℕ) (X : TextAt am B rs tr T) (p : ℕ) → StandsAt B (rows X.t) p x
       → ((r ≡ Ok None) × (at (waited 0 0 [] (take p T)) 0 ≡ None)) ⊎ ((h : Held) × (r ≡ Ok (Some h)) × HeldIn B T (at (waited 0 0 [] (take p T)) 0) h)
 
-module _ {S : Type 0} (bytes : S → List ℕ) (capacity reads : S → ℕ) where
+module _ {S : Type 0} (contents : S → Contents) where
   pub record OpenMet (s s' : S) (a n q rank : ℕ) (r : Result Met Unsound) : Type 0 where
-    pub meets : (bs : List ℕ) → bs ≡ take n (drop a (bytes s)) → a + n ≤ length (bytes s) → 1 ≤ rank → rank ≤ (read_from q bs).unmet → (m : Met) × (r ≡ Ok m) × MetIn q bs rank m
-    pub reading : Reads bytes capacity reads 256 s s'
+    pub meets : (bs : List ℕ) → bs ≡ take n (drop a (contents s).bytes) → a + n ≤ length (contents s).bytes → 1 ≤ rank → rank ≤ (read_from q bs).unmet → (m : Met) × (r ≡ Ok m) × MetIn q bs rank m
+    pub reading : Reads contents 256 s s'
 
   pub record OpenTold {A : Type 0} (rs : List (Record PieceRow (TextValue A))) (tr : Tree) (x : Spot) (s s' : S) (r : Result (Option Other) Unsound) : Type 0 where
-    pub tells : (am : List ℕ → A) (T : List ℕ) (X : TextAt am (bytes s) rs tr T) (p : ℕ) → StandsAt (bytes s) (rows X.t) p x → r ≡ Ok (last_open T p)
-    pub reading : Reads bytes capacity reads 256 s s'
+    pub tells : (am : List ℕ → A) (T : List ℕ) (X : TextAt am (contents s).bytes rs tr T) (p : ℕ) → StandsAt (contents s).bytes (rows X.t) p x → r ≡ Ok (last_open T p)
+    pub reading : Reads contents 256 s s'

@@ -1,6 +1,7 @@
 -- From an open on to its close.
 use Rattle.std.specs.Prelude.{◌≡◌, ℕ, suc, ◌+◌, ◌<◌, ◌≤◌, ◌⊎◌, List, [], ◌∷◌, ◌++◌, length, drop, Some, None, Ok, Option, Result}
 use Rattle.lexer.specs.Reading.{read_from}
+use Rattle.stores.specs.Stores.{Contents}
 use Rattle.slots.specs.Ghost.{rows}
 use Rattle.slots.specs.Values.{flat}
 use Rattle.slots.specs.declared.records.Record.{Record}
@@ -35,16 +36,16 @@ pub record StrayIs (Z : List ℕ) (i : ℕ) (y : Other) : Type 0 where
   pub quiet : (read_from 6 us).strays ≡ 0
   pub close : 1 ≤ (read_from 6 (us ++ (y.byte ∷ []))).strays
 
-module _ {S : Type 0} (bytes : S → List ℕ) (capacity reads : S → ℕ) where
+module _ {S : Type 0} (contents : S → Contents) where
   -- the bytes after the open are those of the row `rest`, and then those of the rows after the one in which it lies
   pub record CloseReached {A : Type 0} (am : List ℕ → A) (rs : List (Record PieceRow (TextValue A))) (tr : Tree) (p : ℕ) (rest : PieceRow) (s s' : S) (r : Result (Option Reach) Unsound) : Type 0 where
-    pub reaches : (T : List ℕ) (X : TextAt am (bytes s) rs tr T) (xs : List PieceRow) (x : PieceRow) (ys : List PieceRow) → rows X.t ≡ xs ++ (x ∷ ys) → sizes xs ≤ p → p < sizes xs + x.length
-        → rest.length < x.length → rest.address + rest.length ≤ length (bytes s)
-        → ((r ≡ Ok None) × ((read_from 6 (bytes_of (bytes s) rest ++ flat (bytes_of (bytes s)) ys)).strays ≡ 0))
-        ⊎ ((h : Reach) × (r ≡ Ok (Some h)) × ReachIs (bytes s) (bytes_of (bytes s) rest ++ flat (bytes_of (bytes s)) ys) h)
-    pub reading : Reads bytes capacity reads 256 s s'
+    pub reaches : (T : List ℕ) (X : TextAt am (contents s).bytes rs tr T) (xs : List PieceRow) (x : PieceRow) (ys : List PieceRow) → rows X.t ≡ xs ++ (x ∷ ys) → sizes xs ≤ p → p < sizes xs + x.length
+        → rest.length < x.length → rest.address + rest.length ≤ length (contents s).bytes
+        → ((r ≡ Ok None) × ((read_from 6 (bytes_of (contents s).bytes rest ++ flat (bytes_of (contents s).bytes) ys)).strays ≡ 0))
+        ⊎ ((h : Reach) × (r ≡ Ok (Some h)) × ReachIs (contents s).bytes (bytes_of (contents s).bytes rest ++ flat (bytes_of (contents s).bytes) ys) h)
+    pub reading : Reads contents 256 s s'
 
   pub record CloseTold {A : Type 0} (am : List ℕ → A) (rs : List (Record PieceRow (TextValue A))) (tr : Tree) (p : ℕ) (x : Spot) (s s' : S) (r : Result (Option Other) Unsound) : Type 0 where
-    pub tells : (T : List ℕ) (X : TextAt am (bytes s) rs tr T) → StandsAt (bytes s) (rows X.t) p x
+    pub tells : (T : List ℕ) (X : TextAt am (contents s).bytes rs tr T) → StandsAt (contents s).bytes (rows X.t) p x
         → ((r ≡ Ok None) × ((read_from 6 (drop (suc p) T)).strays ≡ 0)) ⊎ ((y : Other) × (r ≡ Ok (Some y)) × StrayIs (drop (suc p) T) (suc p) y)
-    pub reading : Reads bytes capacity reads 512 s s'
+    pub reading : Reads contents 512 s s'

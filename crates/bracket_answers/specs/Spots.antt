@@ -7,6 +7,7 @@ use Rattle.plain.specs.declared.answers.Match.TheVariants.{Fits, Crossed}
 use Rattle.plain.specs.declared.answers.Bracket.{Bracket}
 use Rattle.plain.specs.declared.answers.Bracket.TheVariants.{Paired, Alone}
 use Rattle.lexer.specs.Reading.{read_from}
+use Rattle.stores.specs.Stores.{Contents}
 use Rattle.slots.specs.Ghost.{rows}
 use Rattle.slots.specs.Values.{flat}
 use Rattle.slots.specs.declared.records.Record.{Record}
@@ -45,7 +46,7 @@ pub record StandsAt (B : List ℕ) (R : List PieceRow) (p : ℕ) (x : Spot) : Ty
   pub before : x.stop.before ≡ read_from (end_state 0 (flat (bytes_of B) xs)) (take x.stop.index (bytes_of B x.row))
   pub after : x.stop.after ≡ read_from (end_state 0 (flat (bytes_of B) xs)) (take (x.stop.index + 1) (bytes_of B x.row))
 
-module _ {S : Type 0} (bytes : S → List ℕ) (capacity reads : S → ℕ) where
+module _ {S : Type 0} (contents : S → Contents) where
   pub record SpotFound {A : Type 0} (am : List ℕ → A) (rs : List (Record PieceRow (TextValue A))) (tr : Tree) (p : ℕ) (s s' : S) (r : Result Spot Unsound) : Type 0 where
-    pub finds : (T : List ℕ) (X : TextAt am (bytes s) rs tr T) → p < length T → (x : Spot) × (r ≡ Ok x) × StandsAt (bytes s) (rows X.t) p x
-    pub reading : Reads bytes capacity reads 256 s s'
+    pub finds : (T : List ℕ) (X : TextAt am (contents s).bytes rs tr T) → p < length T → (x : Spot) × (r ≡ Ok x) × StandsAt (contents s).bytes (rows X.t) p x
+    pub reading : Reads contents 256 s s'

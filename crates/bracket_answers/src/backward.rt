@@ -1,8 +1,10 @@
 // From a close back to its open.
 ghost use Rattle.std.specs.Prelude.{◌≡◌};
+ghost use Rattle.lexer.specs.Numbers.{number_of};
 ghost use Rattle.bracket_answers.specs.Backward.{kept, OpenMet, OpenHeld, OpenTold};
 
 use crate::spot::{Other, Spot};
+use lexer::states::State;
 use lexer::tokens::TokenRow;
 use opens::parts::Held;
 use opens::walk::walk_back;
@@ -23,7 +25,7 @@ pub struct Met {
 fn keep(met: Met, row: TokenRow, rank: u32, index: u32, byte: u8) -> Met
     ensures { result ≡ kept met row rank index byte }
 {
-    if row.state == 6 && row.unmet == rank {
+    if row.state == State::Open && row.unmet == rank {
         Met { index, byte }
     } else {
         met
@@ -34,22 +36,18 @@ fn keep(met: Met, row: TokenRow, rank: u32, index: u32, byte: u8) -> Met
 pub fn find_open<S: Store>(
     store: &mut S,
     piece: Piece,
-    state: u8,
+    state: State,
     rank: u32,
 ) -> Result<Met, Unsound>
-    ensures { OpenMet S.Store.bytes S.Store.capacity S.Store.reads store.old store.new piece.address piece.length state rank result }
+    ensures { OpenMet S.Store.contents store.old store.new piece.address piece.length (number_of state) rank result }
 {
     let mut row = TokenRow::start(state);
     let mut met = Met { index: 0, byte: 0 };
     for i in 0..piece.length {
-        match store.read(piece.address + i as u32) {
-            Some(byte) => {
-                let next = row.and_byte(byte);
-                met = keep(met, next, rank, i as u32, byte);
-                row = next;
-            }
-            None => return Err(Unsound),
-        }
+        let byte = store.read(piece.address + u32::from(i)).ok_or(Unsound)?;
+        let next = row.and_byte(byte);
+        met = keep(met, next, rank, u32::from(i), byte);
+        row = next;
     }
     Ok(met)
 }
@@ -83,20 +81,15 @@ pub fn open_of<S: Store, V: Copy>(
     text: Tree,
     spot: Spot,
 ) -> Result<Option<Other>, Unsound>
-    ensures { OpenTold S.Store.bytes S.Store.capacity S.Store.reads slots.now text spot store.old store.new result }
+    ensures { OpenTold S.Store.contents slots.now text spot store.old store.new result }
 {
-    let found = held_open(slots, text, spot)?;
-    match found {
-        Some(held) => match held.row.piece() {
-            Some(piece) => {
-                let met = find_open(store, piece, held.start.state, held.rank)?;
-                Ok(Some(Other {
-                    offset: held.start.offset.saturating_add(met.index),
-                    byte: met.byte,
-                }))
-            }
-            None => Err(Unsound),
-        },
-        None => Ok(None),
-    }
+    let Some(held) = held_open(slots, text, spot)? else {
+        return Ok(None);
+    };
+    let piece = Piece::try_from(held.row)?;
+    let met = find_open(store, piece, held.start.state, held.rank)?;
+    Ok(Some(Other {
+        offset: held.start.offset.saturating_add(met.index),
+        byte: met.byte,
+    }))
 }

@@ -15,8 +15,8 @@ use crate::backward::open_of;
 use crate::forward::close_of;
 use crate::spot::{Other, find_spot};
 use edits::doors::size_of;
+use lexer::states::State;
 use measures::Measure;
-use pieces::faults::sound;
 use pieces::head::{Head, TextRecord};
 use plain::answers::{Bracket, Match};
 use plain::faults::TextFault;
@@ -67,19 +67,20 @@ pub fn bracket_in<S: Store, A: Measure<Item = u8>>(
     text: Tree,
     at: u32,
 ) -> Result<Option<Bracket>, Unsound>
-    ensures { Answered S.Store.bytes S.Store.capacity S.Store.reads 768 A.Measure.means slots.now text (λ t. at < length t) (λ t. bracket_of_offset t at) store.old store.new result }
+    ensures { Answered S.Store.contents 768 A.Measure.means slots.now text (λ t. at < length t) (λ t. bracket_of_offset t at) store.old store.new result }
 {
     let spot = find_spot::<S, A>(slots, store, text, at)?;
-    let state = spot.stop.after.state;
-    if state == 6 {
-        let close = close_of::<S, A>(slots, store, text, at, spot)?;
-        return Ok(Some(after_open(spot.stop.byte, close)));
+    match spot.stop.after.state {
+        State::Open => {
+            let close = close_of::<S, A>(slots, store, text, at, spot)?;
+            Ok(Some(after_open(spot.stop.byte, close)))
+        }
+        State::Close => {
+            let open = open_of(slots, store, text, spot)?;
+            Ok(Some(before_close(spot.stop.byte, open)))
+        }
+        _ => Ok(None),
     }
-    if state == 7 {
-        let open = open_of(slots, store, text, spot)?;
-        return Ok(Some(before_close(spot.stop.byte, open)));
-    }
-    Ok(None)
 }
 
 // The partner of the bracket at an offset, or that it has none; nothing where there is no bracket.
@@ -89,11 +90,11 @@ pub fn bracket_at<S: Store, A: Measure<Item = u8>>(
     head: &Head,
     at: u32,
 ) -> Result<Option<Bracket>, TextFault>
-    ensures { (ms : List (Record MarkRow MarkTotals)) → ToldBy A.Measure.means S.Store.bytes S.Store.capacity S.Store.reads slots.now ms head.now (BracketAt at) (λ m. bracket_of_offset («text_of» m) at) store.old store.new result }
+    ensures { (ms : List (Record MarkRow MarkTotals)) → ToldBy A.Measure.means S.Store.contents slots.now ms head.now (BracketAt at) (λ m. bracket_of_offset («text_of» m) at) store.old store.new result }
 {
-    let size = sound(size_of::<A>(slots, head.text))?;
+    let size = size_of::<A>(slots, head.text)?;
     if at >= size {
         return Err(TextFault::Offset);
     }
-    sound(bracket_in::<S, A>(slots, store, head.text, at))
+    Ok(bracket_in::<S, A>(slots, store, head.text, at)?)
 }

@@ -2,12 +2,12 @@
 ghost use Rattle.bracket_answers.specs.Spots.{SpotFound};
 
 use asking::finding::find_row;
-use edits::edges::AtByte;
-use lexer::tokens::{TokenRow, row_of};
+use edits::edges::{AtByte, at_byte};
+use lexer::tokens::{TokenRow, whole};
 use measures::Measure;
-use measures::probes::{OnLeft, PastByte};
 use opens::parts::Start;
 use pieces::head::{TextMeasure, TextRecord};
+use pieces::piece::Piece;
 use pieces::rows::PieceRow;
 use slots::records::{Tree, Unsound};
 use stores::Store;
@@ -34,33 +34,27 @@ pub fn find_spot<S: Store, A: Measure<Item = u8>>(
     text: Tree,
     at: u32,
 ) -> Result<Spot, Unsound>
-    ensures { SpotFound S.Store.bytes S.Store.capacity S.Store.reads A.Measure.means slots.now text at store.old store.new result }
+    ensures { SpotFound S.Store.contents A.Measure.means slots.now text at store.old store.new result }
 {
     let mut before = TextMeasure::<A>::empty();
-    let probe = OnLeft {
-        probe: OnLeft {
-            probe: PastByte { at },
-        },
+    let found = find_row::<PieceRow, TextMeasure<A>, AtByte>(
+        slots,
+        text,
+        &at_byte(at),
+        &mut before,
+    )?;
+    let row = found.ok_or(Unsound)?;
+    let piece = Piece::try_from(row)?;
+    let start = Start {
+        offset: before.left.left.bytes,
+        state: whole(&before.left.right).state,
     };
-    let found = find_row::<PieceRow, TextMeasure<A>, AtByte>(slots, text, &probe, &mut before)?;
-    match found {
-        Some(row) => match row.piece() {
-            Some(piece) => {
-                let start = Start {
-                    offset: before.left.left.bytes,
-                    state: row_of(&before.left.right, 0).state,
-                };
-                let count = at.saturating_sub(start.offset).saturating_add(1);
-                let stop = scan(
-                    store,
-                    piece,
-                    TokenRow::start(start.state),
-                    Goal::Bytes(count),
-                )?;
-                Ok(Spot { row, start, stop })
-            }
-            None => Err(Unsound),
-        },
-        None => Err(Unsound),
-    }
+    let count = at.saturating_sub(start.offset).saturating_add(1);
+    let stop = scan(
+        store,
+        piece,
+        TokenRow::start(start.state),
+        Goal::Bytes(count),
+    )?;
+    Ok(Spot { row, start, stop })
 }

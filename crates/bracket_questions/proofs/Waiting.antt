@@ -1,5 +1,5 @@
 -- The opens that wait while a text is read, and what becomes of the bracket at an offset.
-use Rattle.std.proofs.Common.{◌≡◌, ℕ, zero, suc, ◌+◌, ◌-◌, ◌<◌, ◌≤◌, Bool, true, false, cond, ◌||◌, eqb, ◌⊎◌, List, [], ◌∷◌, ◌++◌, map, length, get_or, take, drop, Some, None, Option, sym, refl, ap, ◌∙◌, subst, ap₂, inl, inr, append_assoc, append-nil, arith, length-append}
+use Rattle.std.proofs.Common.{◌≡◌, ℕ, zero, suc, ◌+◌, ◌-◌, ◌<◌, ◌≤◌, Bool, true, false, cond, ◌||◌, eqb, ◌⊎◌, List, [], ◌∷◌, ◌++◌, map, length, get_or, drop, Some, None, sym, refl, ap, ◌∙◌, ap₂, inl, inr, append_assoc, append-nil, arith}
 use mathlib.Core.List.{tail}
 use Rattle.std.proofs.lemmas.Bool.{eqb-true, eq-eqb, ne_eqb, cond-true, cond-false, or_from, or_left, or_right}
 use Rattle.std.specs.Option.{option_map}
@@ -8,7 +8,6 @@ use Rattle.plain.specs.Tokens.{step, end_state}
 use Rattle.plain.specs.Brackets.{Settled, pair, stray, unmet, waiting, closed, settled, brackets_from, brackets, is_stray, is_unmet, touches, fitting}
 use Rattle.plain.specs.Questions.{against, bracket_of_offset}
 use Rattle.plain.specs.declared.answers.Match.TheVariants.{Fits, Crossed}
-use Rattle.plain.specs.declared.answers.Bracket.{Bracket}
 use Rattle.plain.specs.declared.answers.Bracket.TheVariants.{Paired, Alone}
 use Rattle.measures.specs.Counts.{count_append}
 use Rattle.lexer.specs.Reading.{read_from}

@@ -2,15 +2,9 @@
 #![tactic(auto)]
 
 use call_script::run_script;
-use std::io::Write;
-use std::{env, fs, io};
+use script::programs::answer_files;
+use std::io;
 
 fn main(rt: HostRuntime) -> io::Result<()> {
-    for name in env::args(&rt)?.skip(1) {
-        println!(rt; "{name}")?;
-        let input = fs::read(&rt, name.as_str())?;
-        let output = run_script(rt.alloc(), &input)?;
-        rt.stdout().write_all(&output)?;
-    }
-    Ok(())
+    answer_files(&rt, run_script)
 }

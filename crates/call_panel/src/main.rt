@@ -2,12 +2,9 @@
 #![tactic(auto)]
 
 use call_script::run_script;
+use script::programs::answer_input;
 use std::io;
-use std::io::{Read, Write};
 
 fn main(rt: HostRuntime) -> io::Result<()> {
-    let mut input = Vec::new(rt.alloc());
-    rt.stdin().read_to_end(&mut input)?;
-    let output = run_script(rt.alloc(), &input)?;
-    rt.stdout().write_all(&output)
+    answer_input(rt.alloc(), &mut rt.stdin(), &mut rt.stdout(), run_script)
 }

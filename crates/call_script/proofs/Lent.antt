@@ -1,5 +1,5 @@
 -- The store of a script: a text, and space behind it.
-use Rattle.std.proofs.Common.{◌≡◌, ℕ, ◌+◌, ◌<◌, ◌≤◌, min, List, [], ◌++◌, length, sym, refl, ap, ◌∙◌, ap₂, append-nil, arith}
+use Rattle.std.proofs.Common.{◌≡◌, ℕ, ◌+◌, ◌<◌, ◌≤◌, min, List, [], ◌++◌, length, ap, ◌∙◌, ap₂, append-nil, arith}
 use Rattle.std.proofs.lemmas.List.{take_all}
 use Rattle.stores.specs.Stores.{largest}
 use Rattle.stores.specs.Kinds.{counting}

@@ -1,8 +1,6 @@
-mod Splitting
-mod Rounds
-mod Opening
 mod Collected
 mod Numbers
 mod Printing
+mod Replying
 mod Running
 mod Lent

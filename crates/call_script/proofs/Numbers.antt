@@ -1,5 +1,5 @@
 -- The plain machine over the longest line as its measure has it, and over its length.
-use Rattle.std.proofs.Common.{◌≡◌, ℕ, List, Some, None, Ok, Err, Option, sym, refl, ap, ◌∙◌}
+use Rattle.std.proofs.Common.{◌≡◌, ℕ, List, Some, None, Ok, Err, Option, refl, ap}
 use Rattle.plain.specs.Lists.{slice}
 use Rattle.plain.specs.Questions.{longest}
 use Rattle.plain.specs.Machine.{Machine, Call, Outcome, text, refusal, accepted, step}
@@ -7,7 +7,6 @@ use Rattle.plain.specs.declared.answers.Answer.TheVariants as answer
 use Rattle.plain.specs.declared.calls.Call.TheVariants as call
 use Rattle.plain.specs.declared.faults.CallFault.{CallFault}
 use Rattle.measures.specs.Lines.{lines}
-use Rattle.measures.specs.declared.longest_line.LongestLine.{LongestLine}
 use Rattle.measures.proofs.LineLaws.{lines_longest}
 use Rattle.call_script.specs.Replied.{numbered, numbered_outcome}
 

@@ -1,7 +1,7 @@
 -- With one reply to each call, what is printed is the plain script machine's.
-use Rattle.std.proofs.Common.{◌≡◌, ℕ, suc, ◌+◌, List, [], ◌∷◌, ◌++◌, length, IfOk, Some, None, Ok, Err, Option, Result, sym, refl, ap, ◌∙◌, subst, ap₂}
+use Rattle.std.proofs.Common.{◌≡◌, ℕ, suc, List, [], ◌∷◌, ◌++◌, IfOk, Some, None, Ok, Err, Option, Result, refl, ap, ◌∙◌, subst, ap₂}
 use Rattle.plain.specs.Questions.{longest}
-use Rattle.plain.specs.Machine.{Machine, Call, Outcome, size, fresh, step}
+use Rattle.plain.specs.Machine.{Machine, Call, size, step}
 use Rattle.plain.specs.Script.{Request, request_of_line, lines_of, printed, outcome_fields, line_step, lines_from}
 use Rattle.plain.specs.declared.calls.Request.TheVariants as request
 use Rattle.measures.specs.Lines.{lines}

@@ -1,14 +1,13 @@
 -- The replies to the calls of a script, and what is printed of them.
-use Rattle.std.specs.Prelude.{◌≡◌, ℕ, suc, max, List, [], ◌∷◌, ◌++◌, Some, None, Ok, Err, Option, Result}
+use Rattle.std.specs.Prelude.{◌≡◌, ℕ, suc, List, [], ◌∷◌, ◌++◌, Some, None, Ok, Err, Option}
 use Rattle.plain.specs.Machine.{Machine, Call, Outcome, size, step}
-use Rattle.plain.specs.Script.{Request, request_of_line, printed, answer_fields, refused_at, outcome_fields}
+use Rattle.plain.specs.Script.{Request, request_of_line, printed, refused_at, outcome_fields}
 use Rattle.plain.specs.declared.answers.Answer.{Answer}
 use Rattle.plain.specs.declared.answers.Answer.TheVariants as answer
 use Rattle.plain.specs.declared.calls.Request.TheVariants as request
 use Rattle.plain.specs.declared.faults.CallFault.TheVariants.{NotAllowed}
-use Rattle.plain.specs.declared.faults.LineFault.{LineFault}
 use Rattle.plain.specs.declared.faults.LineFault.TheVariants as fault
-use Rattle.measures.specs.Lines.{lines}
+use Rattle.measures.specs.Lines.{lines, longest_in}
 use Rattle.measures.specs.declared.longest_line.LongestLine.{LongestLine}
 use Rattle.calls.specs.declared.texts.Reply.{Reply}
 
@@ -31,18 +30,13 @@ numbered (answer.Start o) = answer.Start o
 numbered (answer.Token o) = answer.Token o
 numbered (answer.Bracket o) = answer.Bracket o
 numbered (answer.Mark o) = answer.Mark o
-numbered (answer.Range v) = answer.Range (max (max v.first v.inner) v.last)
+numbered (answer.Range v) = answer.Range (longest_in v)
 numbered (answer.Whole x) = answer.Whole x
 numbered answer.Sound = answer.Sound
 
 abbrev pub numbered_outcome : Outcome LongestLine → Outcome ℕ
 numbered_outcome (Ok x) = Ok (numbered x)
 numbered_outcome (Err f) = Err f
-
--- what is printed of line i, by what it gave, when the text has n bytes
-abbrev pub line_fields : ℕ → ℕ → Result (Answer ℕ) LineFault → List (List ℕ)
-line_fields i n (Ok x) = answer_fields n x
-line_fields i n (Err f) = refused_at i f
 
 -- Line i, when these replies are left: those left after it, and what is printed. A call takes the first of them; where there
 -- is none, as never happens with one reply to each call, it counts as unreadable.

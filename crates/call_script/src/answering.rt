@@ -1,35 +1,22 @@
 // What is printed of the lines after the one that opened the text.
-ghost use Rattle.std.specs.Prelude.{◌≡◌, ℕ, ◌+◌, ◌^◌, ◌<◌, ◌++◌, length, is_ok, if◌then◌else◌, Err, OnOk};
-ghost use Rattle.plain.specs.Script.{request_of_line, lines_of, printed, outcome_fields};
-ghost use Rattle.call_script.specs.Replied.{numbered, numbered_outcome, line_fields, reply_step, replies_from};
+ghost use Rattle.std.specs.Prelude.{◌≡◌, ℕ};
+ghost use Rattle.plain.specs.Script.{outcome_fields};
+ghost use Rattle.script.specs.Engines.{line_fields};
+ghost use Rattle.call_script.specs.Replied.{numbered, numbered_outcome};
 
-use crate::input::first_line;
+use crate::collecting::{decode_calls, lend_bytes, read_calls};
+use crate::engine::reply_to_calls;
 use calls::texts::Reply;
-use lines::printing::{print_answer, print_fault};
-use lines::reading::read_line;
 use measures::longest_line::LongestLine;
 use plain::answers::Answer;
-use plain::calls::Request;
-use plain::faults::{CallFault, LineFault, ScriptFault};
-use std::alloc::AllocError;
+use plain::faults::LineFault;
+use script::engine::Engine;
+use script::input::Lines;
+use script::replies::{Answered, Replies, print_replies};
+use script::requests::read_call;
+use std::alloc::{AllocError, Global};
 
-// What a line gave, and how many bytes the text has after it.
-#[derive(Clone, Copy)]
-struct LineReply {
-    outcome: Result<Answer<u32>, LineFault>,
-    size: u32,
-}
-
-fn refused(fault: LineFault) -> LineReply
-    ensures { result.outcome ≡ Err fault }
-{
-    LineReply {
-        outcome: Err(fault),
-        size: 0,
-    }
-}
-
-// Of the longest line, how long it is.
+// Of the longest line, how long it is. A `map` of `Answer` would have the same arms, and this one caller.
 fn numbered_answer(answer: Answer<LongestLine>) -> Answer<u32>
     ensures { result ≡ numbered answer }
 {
@@ -46,71 +33,68 @@ fn numbered_answer(answer: Answer<LongestLine>) -> Answer<u32>
     }
 }
 
-fn line_reply(reply: Reply<LongestLine>) -> LineReply
-    ensures { (i : ℕ) → line_fields i result.size result.outcome ≡ outcome_fields i reply.size (numbered_outcome reply.outcome) }
+fn numbered_reply(reply: &Reply<LongestLine>) -> Result<Answered, LineFault>
+    ensures { (i : ℕ) → line_fields i result ≡ outcome_fields i reply.now.size (numbered_outcome reply.now.outcome) }
 {
-    let outcome = match reply.outcome {
-        Ok(answer) => Ok(numbered_answer(answer)),
-        Err(fault) => Err(LineFault::Call(fault)),
-    };
-    LineReply {
-        outcome,
+    let answer = reply.outcome?;
+    Ok(Answered {
+        answer: numbered_answer(answer),
         size: reply.size,
-    }
+    })
 }
 
-// What a line gives, and the replies that are left after it.
-fn answer<'a>(
-    line: &[u8],
+// The replies that are left of those to all calls.
+#[derive(Clone, Copy)]
+struct Left<'a> {
     replies: &'a [Reply<LongestLine>],
-) -> (LineReply, &'a [Reply<LongestLine>])
-    ensures { (i : ℕ) → reply_step i replies.now (request_of_line line.now) ≡ (result.1.now, line_fields i result.0.size result.0.outcome) }
-{
-    match read_line(line) {
-        Ok(request) => match request {
-            Request::Open(_) => (refused(LineFault::Call(CallFault::NotAllowed)), replies),
-            Request::Call(_) => match replies.split_first() {
-                Some((reply, left)) => (line_reply(*reply), left),
-                None => (refused(LineFault::Unreadable), replies),
-            },
-        },
-        Err(fault) => (refused(fault), replies),
-    }
 }
 
-fn print_reply(out: &mut Vec<u8>, number: usize, reply: LineReply) -> Result<(), AllocError>
-    ensures { out.new.items ≡ (if is_ok result then out.old.items ++ printed (line_fields number reply.size reply.outcome) else out.old.items) }
-{
-    match reply.outcome {
-        Ok(answer) => print_answer(out, reply.size, answer),
-        Err(fault) => print_fault(
-            out,
-            ScriptFault {
-                line: number,
-                fault,
-            },
-        ),
+impl<'a> Replies for Left<'a> {
+    ghost use Rattle.std.specs.Prelude.{refl};
+    ghost use Rattle.call_script.specs.Replied.{replies_from};
+
+    ghost prints = { λ i s ls. replies_from i s.replies.now ls };
+
+    fn reply(&mut self, line: &[u8]) -> Result<Answered, LineFault> {
+        read_call(line)?;
+        let (reply, left) = self.replies.split_first().ok_or(LineFault::Unreadable)?;
+        self.replies = left;
+        numbered_reply(reply)
     }
+
+    ghost ends = { λ i s. refl };
 }
 
-// Prints of the lines after the one whose number is given, with the replies to their calls.
-pub(crate) fn print_replies(
-    replies: &[Reply<LongestLine>],
-    mut number: usize,
-    mut rest: &[u8],
-    out: &mut Vec<u8>,
-) -> Result<(), AllocError>
-    requires counts { number + length rest.now < 2 ^ 64 }
-    ensures { OnOk result (out.new.items ≡ out.old.items ++ replies_from (number + 1) replies.now (lines_of rest.now)) }
-{
-    let mut left = replies;
-    while !rest.is_empty() {
-        let (line, more) = first_line(rest);
-        number += 1;
-        let (reply, after) = answer(line, left);
-        print_reply(out, number, reply)?;
-        left = after;
-        rest = more;
+// Makes the calls of all lines as one list.
+pub(crate) struct ByCalls;
+
+impl Engine for ByCalls {
+    ghost use Rattle.std.specs.Prelude.{refl};
+    ghost use Rattle.plain.specs.Script.{lines_from};
+
+    ghost prints = { lines_from };
+
+    fn answer_lines(
+        heap: Global,
+        text: &[u8],
+        lines: Lines,
+        out: &mut Vec<u8>,
+    ) -> Result<(), AllocError> {
+        let read = read_calls(heap, lines)?;
+        let mut bytes = Vec::new(heap);
+        decode_calls(read.as_slice(), &mut bytes)?;
+        let calls = lend_bytes(heap, read.as_slice(), bytes.as_slice())?;
+        let unanswered = Reply {
+            outcome: Ok(Answer::Done),
+            size: 0,
+        };
+        let mut replies = Vec::from_elem(heap, unanswered, calls.len())?;
+        reply_to_calls(text, calls.as_slice(), replies.as_mut_slice());
+        let mut left = Left {
+            replies: replies.as_slice(),
+        };
+        print_replies(&mut left, lines, out)
     }
-    Ok(())
+
+    ghost waits = { record { ends = λ i. refl; reads = λ i l ls. refl } };
 }

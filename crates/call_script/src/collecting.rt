@@ -1,45 +1,29 @@
 // The calls of all lines as one list, which holds the bytes to insert as parts of one lent slice.
 ghost use Rattle.std.specs.Prelude.{◌≡◌, ◌++◌, map, length, is_ok, IfOk, if◌then◌else◌, OnOk};
-ghost use Rattle.std.specs.Option.{option_map};
-ghost use Rattle.plain.specs.Script.{request_of_line, lines_of};
 ghost use Rattle.lines.specs.Bytes.{bytes_of};
 ghost use Rattle.lines.specs.Requests.{map_call};
 ghost use Rattle.calls.specs.Calls.{plain_calls};
-ghost use Rattle.call_script.specs.Listed.{asked_call, calls_of, inserted, all_inserted};
+ghost use Rattle.script.specs.Input.{left};
+ghost use Rattle.call_script.specs.Listed.{calls_of, inserted, all_inserted};
 
-use crate::input::first_line;
 use lines::hex::Hex;
-use lines::reading::read_line;
-use plain::calls::{Call, Request};
+use plain::calls::Call;
+use script::input::Lines;
+use script::requests::read_call;
 use std::alloc::{AllocError, Global};
 
-fn read_call<'a>(line: &'a [u8]) -> Option<Call<Hex<'a>>>
-    ensures { option_map (map_call bytes_of) result ≡ asked_call (request_of_line line.now) }
-{
-    match read_line(line) {
-        Ok(request) => match request {
-            Request::Call(call) => Some(call),
-            Request::Open(_) => None,
-        },
-        Err(_) => None,
-    }
-}
-
-// Lines that ask for no call are passed over.
+// Lines that ask for no call are passed over. No `filter_map`: its proof wants the `Hex` itself as a function of the line.
 pub(crate) fn read_calls<'a>(
     heap: Global,
-    input: &'a [u8],
+    lines: Lines<'a>,
 ) -> Result<Vec<Call<Hex<'a>>>, AllocError>
-    ensures { IfOk result (λ v. map (map_call bytes_of) v.items ≡ calls_of (lines_of input.now)) }
+    ensures { IfOk result (λ v. map (map_call bytes_of) v.items ≡ calls_of (left lines.entry)) }
 {
     let mut calls = Vec::new(heap);
-    let mut rest = input;
-    while !rest.is_empty() {
-        let (line, more) = first_line(rest);
-        if let Some(call) = read_call(line) {
+    for line in lines {
+        if let Ok(call) = read_call(line.bytes) {
             calls.push(call)?;
         }
-        rest = more;
     }
     Ok(calls)
 }
@@ -64,7 +48,7 @@ pub(crate) fn decode_calls(calls: &[Call<Hex>], out: &mut Vec<u8>) -> Result<(),
     Ok(())
 }
 
-// The same call, with these bytes if it inserts any.
+// The same call, with these bytes if it inserts any. A `map` of `Call` would have the same arms, and this one caller.
 fn with_bytes<'a>(call: Call<Hex>, bytes: &'a [u8]) -> Call<&'a [u8]>
     ensures { result ≡ map_call (λ _. bytes.entry) call.entry }
 {

@@ -1,7 +1,7 @@
 // The engine with all that a script lends it.
 ghost use Rattle.std.specs.Prelude.{◌≡◌, ◌+◌, ◌≤◌, length};
 ghost use Rattle.plain.specs.Machine.{fresh};
-ghost use Rattle.stores.specs.Kinds.{original_bytes, buffer_bytes, buffer_capacity, joined_bytes, joined_capacity};
+ghost use Rattle.stores.specs.Kinds.{joined_contents};
 ghost use Rattle.calls.specs.Calls.{plain_calls};
 ghost use Rattle.call_script.specs.Replied.{Replied};
 
@@ -24,9 +24,10 @@ type ScriptStore<'a, 'b> = Joined<Original<'a>, Buffer<'b>>;
 // The text, and behind it the space for what is inserted.
 fn join_space<'a, 'b>(text: &'a [u8], space: &'b mut [u8]) -> ScriptStore<'a, 'b>
     requires { (length text.now ≤ 2048) × (length space.old ≡ 4096) }
-    ensures bytes { joined_bytes original_bytes buffer_bytes result ≡ text.now }
-    ensures capacity { joined_capacity original_bytes buffer_capacity result ≡ length text.now + 4096 }
+    ensures bytes { (joined_contents result).bytes ≡ text.now }
+    ensures capacity { (joined_contents result).capacity ≡ length text.now + 4096 }
 {
+    // No `unwrap`: the borrow checker does not cover it for a value that may hold several `&mut`.
     match join(Original::new(text), Buffer::new(space)) {
         Ok(joined) => joined,
         Err(_) => unreachable(),
@@ -40,20 +41,17 @@ pub(crate) fn reply_to_calls(text: &[u8], calls: &[Call<&[u8]>], replies: &mut [
     ensures { Replied (fresh text.now (length text.now + 4096) 168 168) (plain_calls calls.now) replies.new }
 {
     let mut space = [0; SPACE];
-    let mut slots: [TextRecord<LongestLine>; SLOTS] = [Record::Free(Link::End); SLOTS];
-    let mut marks: [MarkRecord; SLOTS] = [Record::Free(Link::End); SLOTS];
+    let mut slots: [TextRecord<LongestLine>; SLOTS] = [Record::Free(None); SLOTS];
+    let mut marks: [MarkRecord; SLOTS] = [Record::Free(None); SLOTS];
     let mut scratch = [0; SLOTS];
     let mut store = join_space(text, &mut space);
-    let outcome = run::<ScriptStore, LongestLine>(
+    run::<ScriptStore, LongestLine>(
         &mut slots,
         &mut marks,
         &mut store,
         &mut scratch,
         calls,
         replies,
-    );
-    match outcome {
-        Ok(_) => (),
-        Err(_) => unreachable(),
-    }
+    )
+    .unwrap();
 }

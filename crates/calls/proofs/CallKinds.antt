@@ -1,10 +1,10 @@
 -- What holds of a call by its kind.
-use Rattle.std.proofs.Common.{◌≡◌, ℕ, Bool, true, false, not, List, is_some, sym, refl, ap, arith, Bor}
+use Rattle.std.proofs.Common.{◌≡◌, ℕ, true, false, not, ◌⊎◌, List, is_some, refl, ap, inl, inr, arith, Bor}
 use Rattle.plain.specs.Machine.{Machine, Call, allowed, accepted}
 use Rattle.plain.specs.declared.answers.Answer.TheVariants.{Done}
 use Rattle.plain.specs.declared.calls.Call as calls
 use Rattle.plain.specs.declared.calls.Call.TheVariants as call
-use Rattle.calls.specs.Calls.{Kind, edits, questions, audits, kind_of, is_an_edit, plain_call}
+use Rattle.calls.specs.Calls.{edits, questions, audits, kind_of, plain_call}
 
 abbrev Lent : Type 0
 Lent = calls.Call (Bor (List ℕ))
@@ -78,22 +78,22 @@ edit_done am m call.Whole e = questions_not_edits e
 edit_done am m (call.Audit n) e = audits_not_edits e
 
 -- what is left when some calls are ruled out
-pub not_edit : (c : Lent) → ((p : ℕ) (s : Bor (List ℕ)) → c ≡ call.Insert p s → ⊥) → ((a b : ℕ) → c ≡ call.Delete a b → ⊥) → ((a b : ℕ) → c ≡ call.Cut a b → ⊥) → ((p : ℕ) → c ≡ call.Paste p → ⊥) → (c ≡ call.Discard → ⊥) → ((q l : ℕ) → c ≡ call.Mark q l → ⊥) → is_an_edit (plain_call c) ≡ false
-not_edit (call.Insert p s) no-Insert no-Delete no-Cut no-Paste no-Discard no-Mark = absurd (no-Insert p s refl)
-not_edit (call.Delete a b) no-Insert no-Delete no-Cut no-Paste no-Discard no-Mark = absurd (no-Delete a b refl)
-not_edit (call.Cut a b) no-Insert no-Delete no-Cut no-Paste no-Discard no-Mark = absurd (no-Cut a b refl)
-not_edit (call.Paste p) no-Insert no-Delete no-Cut no-Paste no-Discard no-Mark = absurd (no-Paste p refl)
-not_edit call.Discard no-Insert no-Delete no-Cut no-Paste no-Discard no-Mark = absurd (no-Discard refl)
-not_edit (call.Mark q l) no-Insert no-Delete no-Cut no-Paste no-Discard no-Mark = absurd (no-Mark q l refl)
-not_edit (call.LineOf p) no-Insert no-Delete no-Cut no-Paste no-Discard no-Mark = refl
-not_edit (call.StartOf k) no-Insert no-Delete no-Cut no-Paste no-Discard no-Mark = refl
-not_edit (call.TokenAt p) no-Insert no-Delete no-Cut no-Paste no-Discard no-Mark = refl
-not_edit (call.TokenNumber k) no-Insert no-Delete no-Cut no-Paste no-Discard no-Mark = refl
-not_edit (call.BracketAt p) no-Insert no-Delete no-Cut no-Paste no-Discard no-Mark = refl
-not_edit (call.MarkFrom q) no-Insert no-Delete no-Cut no-Paste no-Discard no-Mark = refl
-not_edit (call.Range a b) no-Insert no-Delete no-Cut no-Paste no-Discard no-Mark = refl
-not_edit call.Whole no-Insert no-Delete no-Cut no-Paste no-Discard no-Mark = refl
-not_edit (call.Audit n) no-Insert no-Delete no-Cut no-Paste no-Discard no-Mark = refl
+pub asks_kind : (c : Lent) → ((p : ℕ) (s : Bor (List ℕ)) → c ≡ call.Insert p s → ⊥) → ((a b : ℕ) → c ≡ call.Delete a b → ⊥) → ((a b : ℕ) → c ≡ call.Cut a b → ⊥) → ((p : ℕ) → c ≡ call.Paste p → ⊥) → (c ≡ call.Discard → ⊥) → ((q l : ℕ) → c ≡ call.Mark q l → ⊥) → ((n : ℕ) → c ≡ call.Audit n → ⊥) → kind_of (plain_call c) ≡ questions
+asks_kind (call.Insert p s) no-Insert no-Delete no-Cut no-Paste no-Discard no-Mark no-Audit = absurd (no-Insert p s refl)
+asks_kind (call.Delete a b) no-Insert no-Delete no-Cut no-Paste no-Discard no-Mark no-Audit = absurd (no-Delete a b refl)
+asks_kind (call.Cut a b) no-Insert no-Delete no-Cut no-Paste no-Discard no-Mark no-Audit = absurd (no-Cut a b refl)
+asks_kind (call.Paste p) no-Insert no-Delete no-Cut no-Paste no-Discard no-Mark no-Audit = absurd (no-Paste p refl)
+asks_kind call.Discard no-Insert no-Delete no-Cut no-Paste no-Discard no-Mark no-Audit = absurd (no-Discard refl)
+asks_kind (call.Mark q l) no-Insert no-Delete no-Cut no-Paste no-Discard no-Mark no-Audit = absurd (no-Mark q l refl)
+asks_kind (call.LineOf p) no-Insert no-Delete no-Cut no-Paste no-Discard no-Mark no-Audit = refl
+asks_kind (call.StartOf k) no-Insert no-Delete no-Cut no-Paste no-Discard no-Mark no-Audit = refl
+asks_kind (call.TokenAt p) no-Insert no-Delete no-Cut no-Paste no-Discard no-Mark no-Audit = refl
+asks_kind (call.TokenNumber k) no-Insert no-Delete no-Cut no-Paste no-Discard no-Mark no-Audit = refl
+asks_kind (call.BracketAt p) no-Insert no-Delete no-Cut no-Paste no-Discard no-Mark no-Audit = refl
+asks_kind (call.MarkFrom q) no-Insert no-Delete no-Cut no-Paste no-Discard no-Mark no-Audit = refl
+asks_kind (call.Range a b) no-Insert no-Delete no-Cut no-Paste no-Discard no-Mark no-Audit = refl
+asks_kind call.Whole no-Insert no-Delete no-Cut no-Paste no-Discard no-Mark no-Audit = refl
+asks_kind (call.Audit n) no-Insert no-Delete no-Cut no-Paste no-Discard no-Mark no-Audit = absurd (no-Audit n refl)
 
 pub whole_rest : (c : Lent) → ((p : ℕ) (s : Bor (List ℕ)) → c ≡ call.Insert p s → ⊥) → ((a b : ℕ) → c ≡ call.Delete a b → ⊥) → ((q l : ℕ) → c ≡ call.Mark q l → ⊥) → ((a b : ℕ) → c ≡ call.Cut a b → ⊥) → kind_of (plain_call c) ≡ edits → (m : Machine) → is_some m.clip ≡ false → allowed m (plain_call c) ≡ false
 whole_rest (call.Insert p s) no-Insert no-Delete no-Mark no-Cut e m h = absurd (no-Insert p s refl)
@@ -129,39 +129,15 @@ held_rest (call.Range a b) no-Paste no-Discard e m h = questions_not_edits e
 held_rest call.Whole no-Paste no-Discard e m h = questions_not_edits e
 held_rest (call.Audit n) no-Paste no-Discard e m h = audits_not_edits e
 
-pub ask_rest : (c : Lent) → ((n : ℕ) → c ≡ call.Audit n → ⊥) → is_an_edit (plain_call c) ≡ false → kind_of (plain_call c) ≡ questions
-ask_rest (call.Insert p s) no-Audit e = true_not_false e
-ask_rest (call.Delete a b) no-Audit e = true_not_false e
-ask_rest (call.Cut a b) no-Audit e = true_not_false e
-ask_rest (call.Paste p) no-Audit e = true_not_false e
-ask_rest call.Discard no-Audit e = true_not_false e
-ask_rest (call.Mark q l) no-Audit e = true_not_false e
-ask_rest (call.LineOf p) no-Audit e = refl
-ask_rest (call.StartOf k) no-Audit e = refl
-ask_rest (call.TokenAt p) no-Audit e = refl
-ask_rest (call.TokenNumber k) no-Audit e = refl
-ask_rest (call.BracketAt p) no-Audit e = refl
-ask_rest (call.MarkFrom q) no-Audit e = refl
-ask_rest (call.Range a b) no-Audit e = refl
-ask_rest call.Whole no-Audit e = refl
-ask_rest (call.Audit n) no-Audit e = absurd (no-Audit n refl)
-
-pub is_edit_lem : (c : Lent) → is_an_edit (plain_call c) ≡ true → kind_of (plain_call c) ≡ edits
-is_edit_lem (call.Insert p s) e = refl
-is_edit_lem (call.Delete a b) e = refl
-is_edit_lem (call.Cut a b) e = refl
-is_edit_lem (call.Paste p) e = refl
-is_edit_lem call.Discard e = refl
-is_edit_lem (call.Mark q l) e = refl
-is_edit_lem (call.LineOf p) e = true_not_false (sym e)
-is_edit_lem (call.StartOf k) e = true_not_false (sym e)
-is_edit_lem (call.TokenAt p) e = true_not_false (sym e)
-is_edit_lem (call.TokenNumber k) e = true_not_false (sym e)
-is_edit_lem (call.BracketAt p) e = true_not_false (sym e)
-is_edit_lem (call.MarkFrom q) e = true_not_false (sym e)
-is_edit_lem (call.Range a b) e = true_not_false (sym e)
-is_edit_lem call.Whole e = true_not_false (sym e)
-is_edit_lem (call.Audit n) e = true_not_false (sym e)
+-- the calls that are edits
+pub edit_kind : (c : Lent) → ((p : ℕ) × (s : Bor (List ℕ)) × (c ≡ call.Insert p s)) ⊎ (((a : ℕ) × (b : ℕ) × (c ≡ call.Delete a b)) ⊎ (((a : ℕ) × (b : ℕ) × (c ≡ call.Cut a b)) ⊎ (((p : ℕ) × (c ≡ call.Paste p)) ⊎ ((c ≡ call.Discard) ⊎ ((q : ℕ) × (l : ℕ) × (c ≡ call.Mark q l))))))
+    → kind_of (plain_call c) ≡ edits
+edit_kind c (inl e) = ap (λ (d : Lent). kind_of (plain_call d)) e.2
+edit_kind c (inr (inl e)) = ap (λ (d : Lent). kind_of (plain_call d)) e.2
+edit_kind c (inr (inr (inl e))) = ap (λ (d : Lent). kind_of (plain_call d)) e.2
+edit_kind c (inr (inr (inr (inl e)))) = ap (λ (d : Lent). kind_of (plain_call d)) e.1
+edit_kind c (inr (inr (inr (inr (inl e))))) = ap (λ (d : Lent). kind_of (plain_call d)) e
+edit_kind c (inr (inr (inr (inr (inr e))))) = ap (λ (d : Lent). kind_of (plain_call d)) e.2
 
 pub no_question : {X : Type 0} (c : Lent) → ((p : ℕ) → c ≡ call.LineOf p → ⊥) → ((k : ℕ) → c ≡ call.StartOf k → ⊥) → ((p : ℕ) → c ≡ call.TokenAt p → ⊥) → ((k : ℕ) → c ≡ call.TokenNumber k → ⊥) → ((p : ℕ) → c ≡ call.BracketAt p → ⊥) → ((q : ℕ) → c ≡ call.MarkFrom q → ⊥) → ((a b : ℕ) → c ≡ call.Range a b → ⊥) → (c ≡ call.Whole → ⊥) → kind_of (plain_call c) ≡ questions → X
 no_question (call.Insert p s) no-LineOf no-StartOf no-TokenAt no-TokenNumber no-BracketAt no-MarkFrom no-Range no-Whole e = edits_not_questions e

@@ -1,5 +1,5 @@
 -- Calls and texts as the code has them, and as the plain machine does.
-use Rattle.std.specs.Prelude.{ℕ, Bool, true, false, List, map, Ok, Err, Result}
+use Rattle.std.specs.Prelude.{ℕ, List, map, Ok, Err, Result}
 use Rattle.std.specs.Borrow.{Bor}
 use Rattle.plain.specs.Machine.{Call}
 use Rattle.plain.specs.declared.answers.Answer.{Answer}
@@ -55,14 +55,6 @@ kind_of (call.MarkFrom q) = questions
 kind_of (call.Range a b) = questions
 kind_of call.Whole = questions
 kind_of (call.Audit n) = audits
-
-abbrev pub is_edits : Kind → Bool
-is_edits edits = true
-is_edits questions = false
-is_edits audits = false
-
-abbrev pub is_an_edit : Call → Bool
-is_an_edit c = is_edits (kind_of c)
 
 abbrev pub head_of : Text → Head
 head_of (text.Whole w) = w.head

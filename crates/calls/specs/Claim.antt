@@ -1,10 +1,10 @@
 -- The claim about whole lists of calls, step by step: what each call of a list does to the text and to all that was lent.
 -- specs/Runs.antt has the whole, from the opening to the end, and says what it shuts out.
-use Rattle.std.specs.Prelude.{◌≡◌, ℕ, ◌+◌, ◌-◌, ◌^◌, ◌<◌, ◌≤◌, max, List, [], ◌∷◌, ◌++◌, length, take, drop, replicate, Some, None, Option}
+use Rattle.std.specs.Prelude.{◌≡◌, ℕ, ◌+◌, ◌-◌, ◌^◌, ◌<◌, ◌≤◌, max, List, [], ◌∷◌, ◌++◌, length, drop, replicate, Some, None, Option}
 use Rattle.plain.specs.Pieces.{spell}
 use Rattle.plain.specs.Machine.{Machine, Call, size, clipped, refusal, step}
 use Rattle.plain.specs.declared.faults.CallFault.{CallFault}
-use Rattle.stores.specs.Stores.{summed}
+use Rattle.stores.specs.Stores.{Contents, summed}
 use Rattle.measures.specs.declared.mark_totals.MarkRow.{MarkRow}
 use Rattle.measures.specs.declared.mark_totals.MarkTotals.{MarkTotals}
 use Rattle.slots.specs.Ghost.{occ_list, occ, rows, levels}
@@ -33,14 +33,14 @@ last_of x [] = x
 last_of x (y ∷ ys) = last_of y ys
 
 -- am is the added measure; of a store its bytes, its capacity, and the count of its reads are known.
-module _ {A S : Type 0} (am : List ℕ → A) (bytes : S → List ℕ) (capacity reads : S → ℕ) where
+module _ {A S : Type 0} (am : List ℕ → A) (contents : S → Contents) where
   -- Memory at the moment x is sound,
   abbrev pub SoundAt : Moment A S → Type 0
-  SoundAt x = Sound am (bytes x.store) (watched_of x.slots) (watched_of x.marks) (head_of x.text)
+  SoundAt x = Sound am (contents x.store).bytes (watched_of x.slots) (watched_of x.marks) (head_of x.text)
 
   -- and spells the plain machine m.
   abbrev pub SpellsAt : Moment A S → Machine → Type 0
-  SpellsAt x m = Spells am (mode_of x.text) (bytes x.store) (capacity x.store) (watched_of x.slots) (watched_of x.marks) (head_of x.text) m
+  SpellsAt x m = Spells am (mode_of x.text) (contents x.store).bytes (contents x.store).capacity (watched_of x.slots) (watched_of x.marks) (head_of x.text) m
 
   -- Each watched slot is in use by a tree or free, and that once; a tree of d levels has at least 2^(d+1) - 2 elements.
   pub record InOrder (x : Moment A S) (so : SoundAt x) : Type 0 where
@@ -55,12 +55,12 @@ module _ {A S : Type 0} (am : List ℕ → A) (bytes : S → List ℕ) (capacity
     pub text : y.text ≡ x.text
     pub slots : y.slots ≡ x.slots
     pub marks : y.marks ≡ x.marks
-    pub same_bytes : bytes y.store ≡ bytes x.store
+    pub same_bytes : (contents y.store).bytes ≡ (contents x.store).bytes
 
   -- A refused call changes nothing and reads nothing.
   pub record Refused (x y : Moment A S) : Type 0 where
     pub kept : Kept x y
-    pub no_reads : reads y.store ≤ reads x.store
+    pub no_reads : (contents y.store).reads ≤ (contents x.store).reads
     pub same_scratch : y.scratch ≡ x.scratch
 
   -- An accepted edit: in each slice, outside at most 9d + 4 slots, every watched slot is now free or as it was, where d is
@@ -68,20 +68,20 @@ module _ {A S : Type 0} (am : List ℕ → A) (bytes : S → List ℕ) (capacity
   pub record Edited (x y : Moment A S) (so : SoundAt y) : Type 0 where
     pub fresh_slots : Fresh (watched_of x.slots) (watched_of y.slots) (max (levels so.t) (levels so.k))
     pub fresh_marks : Fresh (watched_of x.marks) (watched_of y.marks) (levels so.u)
-    pub few_reads : reads y.store ≤ reads x.store + 512
+    pub few_reads : (contents y.store).reads ≤ (contents x.store).reads + 512
     pub same_scratch : y.scratch ≡ x.scratch
 
   -- An answered question: nothing changed, and at most 1,024 bytes were read.
   pub record Answered (x y : Moment A S) : Type 0 where
     pub kept : Kept x y
-    pub few_reads : reads y.store ≤ reads x.store + 1024
+    pub few_reads : (contents y.store).reads ≤ (contents x.store).reads + 1024
     pub same_scratch : y.scratch ≡ x.scratch
 
   -- An audit with enough scratch: nothing changed but a byte of scratch for each slot of the larger slice, which is zero
   -- now, and each byte of text and clip was read once.
   pub record Audited (m : Machine) (x y : Moment A S) : Type 0 where
     pub kept : Kept x y
-    pub each_byte_once : reads y.store ≡ summed (reads x.store) (size m + length (spell m.bytes (clipped m)))
+    pub each_byte_once : (contents y.store).reads ≡ summed (contents x.store).reads (size m + length (spell m.bytes (clipped m)))
     pub zeroed : y.scratch ≡ replicate (max m.text_slots m.mark_slots) 0 ++ drop (max m.text_slots m.mark_slots) x.scratch
 
   -- by the kind of the call, and the machine's own refusal
@@ -102,7 +102,7 @@ module _ {A S : Type 0} (am : List ℕ → A) (bytes : S → List ℕ) (capacity
     pub in_order : InOrder y spells.sound
     pub effect : Effect (kind_of c) (refusal m c) m x y spells.sound
     pub later : LaterKept x.slots y.slots x.marks y.marks
-    pub same_capacity : capacity y.store ≡ capacity x.store
+    pub same_capacity : (contents y.store).capacity ≡ (contents x.store).capacity
 
   -- Call by call, and moment by moment.
   abbrev pub Runs : Moment A S → Machine → List (Moment A S) → List Call → List (Reply A) → Type 0

@@ -15,7 +15,7 @@ use Rattle.plain.specs.Lists.{first_no}
 use Rattle.plain.specs.Machine as plain
 use Rattle.plain.specs.Machine.{Machine, Call, fresh, discard, watched, open_asked}
 use Rattle.plain.specs.declared.faults.TextFault.{TextFault}
-use Rattle.stores.specs.Stores.{summed}
+use Rattle.stores.specs.Stores.{Contents, summed}
 use Rattle.measures.specs.declared.mark_totals.MarkRow.{MarkRow}
 use Rattle.measures.specs.declared.mark_totals.MarkTotals.{MarkTotals}
 use Rattle.slots.specs.declared.records.Record.{Record}
@@ -37,22 +37,22 @@ abbrev pub run_asked : List ℕ → ℕ → ℕ → ℕ → ℕ → ℕ → List
 run_asked B slots marks scratch n replies =
     (nat_le n replies, Replies) ∷ (nat_le (max (watched slots) (watched marks)) scratch, Scratch) ∷ map as_opening (open_asked B slots marks)
 
-module _ {A S : Type 0} (am : List ℕ → A) (bytes : S → List ℕ) (capacity reads : S → ℕ) where
+module _ {A S : Type 0} (am : List ℕ → A) (contents : S → Contents) where
   -- The list was run: the text was opened at a first moment, the calls led to a last one, and there a clip that was left was discarded.
   pub record WasRun (cs : List Call) (rs rs' : List (Record PieceRow (TextValue A))) (ms ms' : List (Record MarkRow MarkTotals)) (s s' : S) (z z' : List ℕ) (ans ans' : List (Reply A)) (w : Whole) (m : Machine) : Type 0 where
     pub first : Moment A S
     pub last : Moment A S
     -- opening: memory spells the fresh machine, each byte was read once, and later slots and the scratch are as they were
-    pub opened : SpellsAt am bytes capacity reads first m
-    pub each_byte_once : reads first.store ≡ summed (reads s) (length (bytes s))
+    pub opened : SpellsAt am contents first m
+    pub each_byte_once : (contents first.store).reads ≡ summed (contents s).reads (length (contents s).bytes)
     pub opened_later : LaterKept rs first.slots ms first.marks
     pub opened_scratch : first.scratch ≡ z
     -- the calls: one reply each, and no other place for a reply was written
-    pub ran : Ran am bytes capacity reads first m cs (take (length cs) ans') last
+    pub ran : Ran am contents first m cs (take (length cs) ans') last
     pub answers : map (λ (a : Reply A). a.outcome) (take (length cs) ans') ≡ (plain.run am m cs).1
     pub other_replies : drop (length cs) ans' ≡ drop (length cs) ans
     -- the end: what `run` leaves spells the machine after the last call, without a clip
-    pub ends : SpellsAt am bytes capacity reads (moment (text.Whole w) rs' ms' s' z') (discard (plain.run am m cs).0)
+    pub ends : SpellsAt am contents (moment (text.Whole w) rs' ms' s' z') (discard (plain.run am m cs).0)
     pub ends_later : LaterKept last.slots rs' last.marks ms'
     pub ends_store : s' ≡ last.store
     pub ends_scratch : z' ≡ last.scratch
@@ -61,17 +61,17 @@ module _ {A S : Type 0} (am : List ℕ → A) (bytes : S → List ℕ) (capacity
   pub record NotBegun (rs rs' : List (Record PieceRow (TextValue A))) (ms ms' : List (Record MarkRow MarkTotals)) (s s' : S) (z z' : List ℕ) (ans ans' : List (Reply A)) : Type 0 where
     pub slots : rs' ≡ rs
     pub marks : ms' ≡ ms
-    pub same_bytes : bytes s' ≡ bytes s
-    pub same_capacity : capacity s' ≡ capacity s
-    pub no_reads : reads s' ≡ reads s
+    pub same_bytes : (contents s').bytes ≡ (contents s).bytes
+    pub same_capacity : (contents s').capacity ≡ (contents s).capacity
+    pub no_reads : (contents s').reads ≡ (contents s).reads
     pub scratch : z' ≡ z
     pub replies : ans' ≡ ans
 
   abbrev pub RunOutcome : Option RunFault → List Call → List (Record PieceRow (TextValue A)) → List (Record PieceRow (TextValue A)) → List (Record MarkRow MarkTotals) → List (Record MarkRow MarkTotals) → S → S → List ℕ → List ℕ → List (Reply A) → List (Reply A) → Result Whole RunFault → Type 0
   RunOutcome None cs rs rs' ms ms' s s' z z' ans ans' r =
-      (w : Whole) × (r ≡ Ok w) × WasRun cs rs rs' ms ms' s s' z z' ans ans' w (fresh (bytes s) (capacity s) (length rs) (length ms))
+      (w : Whole) × (r ≡ Ok w) × WasRun cs rs rs' ms ms' s s' z z' ans ans' w (fresh (contents s).bytes (contents s).capacity (length rs) (length ms))
   RunOutcome (Some f) cs rs rs' ms ms' s s' z z' ans ans' r = (r ≡ Err f) × NotBegun rs rs' ms ms' s s' z z' ans ans'
 
   -- For every store and every lawful added measure, whatever slots and scratch held before.
   pub record Claim (cs : List Call) (rs rs' : List (Record PieceRow (TextValue A))) (ms ms' : List (Record MarkRow MarkTotals)) (s s' : S) (z z' : List ℕ) (ans ans' : List (Reply A)) (r : Result Whole RunFault) : Type 0 where
-    pub outcome : RunOutcome (first_no (run_asked (bytes s) (length rs) (length ms) (length z) (length cs) (length ans))) cs rs rs' ms ms' s s' z z' ans ans' r
+    pub outcome : RunOutcome (first_no (run_asked (contents s).bytes (length rs) (length ms) (length z) (length cs) (length ans))) cs rs rs' ms ms' s s' z z' ans ans' r

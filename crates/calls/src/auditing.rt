@@ -18,7 +18,7 @@ pub(crate) fn audit<S: Store, A: Measure<Item = u8>>(
     scratch: &mut [u8],
     bytes: u32,
 ) -> Result<(), TextFault>
-    ensures { AuditLent A.Measure.means S.Store.bytes S.Store.capacity S.Store.reads store.old store.new (watched_of slots.now) (watched_of marks.now) view.entry.head.now scratch.old scratch.new bytes result }
+    ensures { AuditLent A.Measure.means S.Store.contents store.old store.new (watched_of slots.now) (watched_of marks.now) view.entry.head.now scratch.old scratch.new bytes result }
 {
     let lent = (bytes as usize).min(scratch.len());
     view.audit::<S, A>(slots, marks, store, &mut scratch[0..lent])

@@ -21,7 +21,7 @@ pub(crate) fn ask<S: Store, A: Measure<Item = u8>>(
     store: &mut S,
     call: Call<&[u8]>,
 ) -> Result<Answer<A::Value>, TextFault>
-    ensures { kind_of (plain_call call.entry) ≡ «a-question» → ToldBy A.Measure.means S.Store.bytes S.Store.capacity S.Store.reads (watched_of slots.now) (watched_of marks.now) view.entry.head.now (plain_call call.entry) (λ m. (accepted A.Measure.means m (plain_call call.entry)).1) store.old store.new result }
+    ensures { kind_of (plain_call call.entry) ≡ «a-question» → ToldBy A.Measure.means S.Store.contents (watched_of slots.now) (watched_of marks.now) view.entry.head.now (plain_call call.entry) (λ m. (accepted A.Measure.means m (plain_call call.entry)).1) store.old store.new result }
 {
     match call {
         Call::LineOf { at } => Ok(Answer::Line(view.line_of::<S, A>(slots, store, at)?)),

@@ -34,6 +34,17 @@ pub enum RunFault {
     Opening(TextFault),
 }
 
+impl From<TextFault> for RunFault {
+    ghost use Rattle.std.specs.Prelude.{◌≡◌};
+    ghost use Rattle.calls.specs.declared.RunFault.TheVariants.{Opening};
+
+    ghost from_gives = { λ fault outer. outer ≡ Opening fault };
+
+    fn from(fault: TextFault) -> RunFault {
+        RunFault::Opening(fault)
+    }
+}
+
 // Makes the calls one after the other, as many as there are replies for.
 pub fn make_calls<S: Store, A: Measure<Item = u8>>(
     text: Text,
@@ -44,11 +55,12 @@ pub fn make_calls<S: Store, A: Measure<Item = u8>>(
     calls: &[Call<&[u8]>],
     replies: &mut [Reply<A::Value>],
 ) -> Text
-    ensures { MakesAll A.Measure.means S.Store.bytes S.Store.capacity S.Store.reads (moment text slots.old marks.old store.old scratch.old) (plain_calls calls.now) replies.old replies.new (moment result slots.new marks.new store.new scratch.new) }
+    ensures { MakesAll A.Measure.means S.Store.contents (moment text slots.old marks.old store.old scratch.old) (plain_calls calls.now) replies.old replies.new (moment result slots.new marks.new store.new scratch.new) }
 {
     let mut text = text;
-    for i in 0..calls.len().min(replies.len()) {
-        let (next, reply) = make_call::<S, A>(text, slots, marks, store, scratch, calls[i]);
+    let count = calls.len().min(replies.len());
+    for (i, call) in calls[..count].iter().enumerate() {
+        let (next, reply) = make_call::<S, A>(text, slots, marks, store, scratch, *call);
         text = next;
         put_reply(replies, i, reply);
     }
@@ -74,21 +86,17 @@ pub fn run<S: Store, A: Measure<Item = u8>>(
     calls: &[Call<&[u8]>],
     replies: &mut [Reply<A::Value>],
 ) -> Result<Whole, RunFault>
-    ensures { Claim A.Measure.means S.Store.bytes S.Store.capacity S.Store.reads (plain_calls calls.now) slots.old slots.new marks.old marks.new store.old store.new scratch.old scratch.new replies.old replies.new result }
+    ensures { Claim A.Measure.means S.Store.contents (plain_calls calls.now) slots.old slots.new marks.old marks.new store.old store.new scratch.old scratch.new replies.old replies.new result }
 {
     if replies.len() < calls.len() {
         return Err(RunFault::Replies);
     }
     let larger = watched(slots.len()).max(watched(marks.len()));
-    if scratch.len() < larger as usize {
+    if scratch.len() < usize::from(larger) {
         return Err(RunFault::Scratch);
     }
-    match Whole::open::<S, A>(slots, marks, store) {
-        Ok(whole) => {
-            let text = Text::Whole(whole);
-            let text = make_calls::<S, A>(text, slots, marks, store, scratch, calls, replies);
-            Ok(settle::<A>(text, slots))
-        }
-        Err(fault) => Err(RunFault::Opening(fault)),
-    }
+    let whole = Whole::open::<S, A>(slots, marks, store)?;
+    let text = Text::Whole(whole);
+    let text = make_calls::<S, A>(text, slots, marks, store, scratch, calls, replies);
+    Ok(settle::<A>(text, slots))
 }

@@ -19,7 +19,8 @@ pub struct Reply<V> {
     pub size: u32,
 }
 
-// Puts down the reply to call i, if there is a place for it.
+// Puts down the reply to call i, if there is a place for it. Neither a walk by `zip` nor `get_mut` would tell the proof what
+// the places hold in the end.
 pub(crate) fn put_reply<V: Copy>(replies: &mut [Reply<V>], i: usize, reply: Reply<V>)
     ensures { i < length replies.old → replies.new ≡ slice_set replies.old i reply }
 {

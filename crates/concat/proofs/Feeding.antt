@@ -7,7 +7,7 @@ use Rattle.std.specs.declared.option.Option.{Option}
 use Rattle.std.specs.declared.option.Option.TheVariants.{None, Some}
 use Rattle.std.specs.declared.result.Result.{Result}
 use Rattle.std.specs.declared.result.Result.TheVariants.{Ok, Err}
-use Rattle.tree.specs.Words.{Unsound, Link, To, Digit, Two, Four, Record, Front, Back, Grown, Room, Over, Peel}
+use Rattle.tree.specs.Words.{Unsound, Link, Digit, Two, Four, Record, Front, Back, Grown, Room, Over, Peel}
 use Rattle.slots.specs.Ghost.{Twig, Arm, a1, a2, a3, a4, same, occ_list, head_of, root, digit_of, part_of, rows_twig, rows_arm, rows_part, size, size_part, occ_twig, occ_arm, occ_part, FitTwig, FitArm, FitPart, Chain, Off}
 use Rattle.slots.specs.Sides.{grown, peeled}
 use Rattle.slots.specs.Values.{mean, wt}
@@ -58,7 +58,7 @@ module _ {R V : Type 0} where
 
 module _ {R I V : Type 0} {weigh : I → ℕ} {means : List I → V} where
   grouped : {rs rs₁ : List (Record R V)} {f f₁ : Link} {d : Digit} {x : ℕ} {p : Result ℕ Unsound} {made : Option Digit} {q : Result (Option Digit) Unsound} → NodePut weigh means rs rs₁ f f₁ d p → p ≡ Ok x → q ≡ added made x
-      → (items : R → List I) (W : Option (Arm R V)) (A : Arm R V) (n : ℕ) (ns : List ℕ) (k : ℕ) → part_of W ≡ made → size_part W ≤ 3 → Nodal A → digit_of A ≡ d → To n ≡ f → Chain rs (n ∷ ns)
+      → (items : R → List I) (W : Option (Arm R V)) (A : Arm R V) (n : ℕ) (ns : List ℕ) (k : ℕ) → part_of W ≡ made → size_part W ≤ 3 → Nodal A → digit_of A ≡ d → Some n ≡ f → Chain rs (n ∷ ns)
       → FitPart (mean means items) rs W (suc k) → FitArm (mean means items) rs A k → wt weigh items (rows_arm A) ≤ heaviest → ((j : ℕ) → occ_part W j + (occ_arm A j + (same n j + occ_list ns j)) ≤ 1)
       → Grouped (mean means items) rs rs₁ f₁ q W A n ns k
   grouped {rs₁ = rs₁} {x = x} np got ad items W A n ns k ew le nd ed first chain fits fit light once =

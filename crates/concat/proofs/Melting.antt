@@ -19,7 +19,7 @@ use Rattle.slots.proofs.Frames.{same_self, occ_list_append, calm_then, off_then,
 use Rattle.slots.proofs.Shapes.{ok_err, ok_same, part_none, part_some, tree_empty, tree_single, tree_deep, at_level}
 use Rattle.slots.proofs.Weights.{wt_append, join_rows}
 use Rattle.slots.proofs.Depth.{few_levels}
-use Rattle.slots.proofs.Reading.{deep_value}
+use Rattle.slots.proofs.Joined.{deep_value}
 use Rattle.slots.proofs.Ends.{part_four, wt_sided}
 use Rattle.tree.proofs.Levels.{level_done}
 use Rattle.concat.proofs.Extending.{stretch}
@@ -43,6 +43,17 @@ module _ {R I V : Type 0} {weigh : I → ℕ} {means : List I → V} {rs : List 
         ∙ ap (λ q. Ok (mean means items q)) (append_assoc xs (rows_arm A) zs)) P (ep ∙ is) fit light;
   }
 
+module _ {R I V : Type 0} {weigh : I → ℕ} {means : List I → V} {rs : List (Record R V)} {i j : ℕ} {p : Option Digit} {r : Result V Unsound} {e : Unsound} where
+  pub between_no_first : Err e ≡ value_in (get_or rs i none) → JoinedBetween weigh means rs i p j r
+  between_no_first bad = record { joins = λ items xs P zs k ep fit vi vj light. absurd (ok_err vi (sym bad)) }
+
+  pub between_no_part : {d : Digit} → p ≡ Some d → DigitValued weigh means rs d (Err e) → JoinedBetween weigh means rs i p j r
+  between_no_part {d} is dv = record {
+    joins = λ items xs P zs k ep fit vi vj light.
+        part_some (λ P. FitPart (mean means items) rs P k → wt weigh items xs + (wt weigh items (rows_part P) + wt weigh items zs) ≤ heaviest → r ≡ Ok (mean means items (xs ++ (rows_part P ++ zs)))) d
+        (λ A ea fa light. absurd (ok_err (dv.values items A k ea fa (omega (arith, light))) refl)) P (ep ∙ is) fit light;
+  }
+
 -- the middles and the nodes between them
 record Inner {R I V : Type 0} (weigh : I → ℕ) (means : List I → V) (items : R → List I) (rs rs₁ rs₂ : List (Record R V)) (f₁ f₂ : Link) (p : Result (Option Digit) Unsound) (q : Result Tree Unsound) (m : Finger R V) (B : Arm R V) (P : Option (Arm R V)) (G : Arm R V) (n : Finger R V) (fs : List ℕ) (k : ℕ) : Type 0 where
   pub N : Nodes weigh means items rs rs₁ f₁ p (rows_arm B ++ (rows_part P ++ rows_arm G)) (λ j. occ_arm B j + (occ_part P j + occ_arm G j)) fs 0 k
@@ -51,12 +62,6 @@ record Inner {R I V : Type 0} (weigh : I → ℕ) (means : List I → V) (items 
 
 module _ {R I V : Type 0} {weigh : I → ℕ} {means : List I → V} where
   -- the code names the tree that it matched by what it is
-  pub ext_at : {rs rs' : List (Record R V)} {f f' : Link} {fuel : ℕ} {s : Side} {t t₁ : Tree} {p : Option Digit} {r : Result Tree Unsound} → t₁ ≡ t → Extended weigh means rs rs' f f' fuel s t p r → Extended weigh means rs rs' f f' fuel s t₁ p r
-  ext_at {rs} {rs'} {f} {f'} {fuel} {s} {t} {t₁} {p} {r} e ext = subst (λ o. Extended weigh means rs rs' f f' fuel s o p r) (sym e) ext
-
-  pub past_at : {rs rs' : List (Record R V)} {f f' : Link} {fuel : ℕ} {s : Side} {t t₁ : Tree} {p : Option Digit} {x : ℕ} {r : Result Tree Unsound} → t₁ ≡ t → ExtendedPast weigh means rs rs' f f' fuel s t p x r → ExtendedPast weigh means rs rs' f f' fuel s t₁ p x r
-  past_at {rs} {rs'} {f} {f'} {fuel} {s} {t} {t₁} {p} {x} {r} e ext = subst (λ o. ExtendedPast weigh means rs rs' f f' fuel s o p x r) (sym e) ext
-
   module _ {rs rs' : List (Record R V)} {f f' : Link} {fuel : ℕ} {left right : Tree} {p : Option Digit} {r : Result Tree Unsound} where
     -- one side is nothing
     pub left_empty : left ≡ Empty → Extended weigh means rs rs' f f' fuel Front right p r → Melted weigh means rs rs' f f' fuel left p right r
@@ -250,6 +255,10 @@ module _ {R I V : Type 0} {weigh : I → ℕ} {means : List I → V} where
           (mean means items) l k h.fit_l (h.left_is ∙ left_is) h;
     }
 
+    pub no_between : {rs' : List (Record R V)} {f' : Link} {value : Result V Unsound} {e : Unsound} {r : Result Tree Unsound} → JoinedBetween weigh means rs i p j value → value ≡ Err e → Melted weigh means rs rs' f f' fuel left p right r
+    no_between jo bad = at_levels (λ items v v' F m B P G n L fs k d ef eb eg el em en h.
+        absurd (ok_err (jo.joins items (rows (deep i v F m B)) P (rows (deep j v' G n L)) k h.part_is h.fits (deep_value (mean means items) rs i v F m B k h.fit_l) (deep_value (mean means items) rs j v' G n L k h.fit_s) h.light) bad))
+
     module _ {rs₁ : List (Record R V)} {f₁ : Link} {c : Result (Option Digit) Unsound} (bun : Bundled weigh means rs rs₁ f f₁ a.back p b.front c) where
       pub no_nodes : {rs' : List (Record R V)} {f' : Link} {e : Unsound} {r : Result Tree Unsound} → c ≡ Err e → Melted weigh means rs rs' f f' fuel left p right r
       no_nodes bad = at_levels (λ items v v' F m B P G n L fs k d ef eb eg el em en h. absurd (ok_err (nodes_go bun items v v' F m B P G n L fs k d eb eg h).ok bad))
@@ -309,3 +318,10 @@ module _ {R I V : Type 0} {weigh : I → ℕ} {means : List I → V} where
           (omega (arith, h.light, wt_append weigh items (rows_part Q) (rows t))) (omega (arith, h.small, length-append (rows_part Q) (rows t))) h.long
       go Back ext items t Q fs h = stretched ext items t Q fs h.left h.between h.first h.fit_l h.fit_q h.chain (λ j. omega (arith, h.once j))
           (omega (arith, h.light, wt_append weigh items (rows t) (rows_part Q ++ []), wt_append weigh items (rows_part Q) [])) (omega (arith, h.small, length-append (rows t) (rows_part Q ++ []))) h.long
+
+  -- the slots as the arena left them
+  pub extends_at : {rs rs₁ rs' : List (Record R V)} {f f' : Link} {s : Side} {t : Tree} {p : Option Digit} {r : Result Tree Unsound} → rs₁ ≡ rs' → Extends weigh means rs rs₁ f f' s t p r → Extends weigh means rs rs' f f' s t p r
+  extends_at {rs} {f = f} {f'} {s} {t} {p} {r} is made = subst (λ q. Extends weigh means rs q f f' s t p r) is made
+
+  pub concats_at : {rs rs₁ rs' : List (Record R V)} {f f' : Link} {left right : Tree} {p : Option Digit} {r : Result Tree Unsound} → rs₁ ≡ rs' → Concat weigh means rs rs₁ f f' left p right r → Concat weigh means rs rs' f f' left p right r
+  concats_at {rs} {f = f} {f'} {left} {right} {p} {r} is made = subst (λ q. Concat weigh means rs q f f' left p right r) is made

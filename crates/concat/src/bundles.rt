@@ -3,8 +3,8 @@ ghost use Rattle.std.specs.Prelude.{◌≡◌};
 ghost use Rattle.concat.specs.Post.{added, FedOne, FedPart, Finished, Bundled};
 
 use measures::Measure;
-use slots::digits::{grow, peel};
-use slots::records::{Digit, Grown, Link, Record, Side, Unsound};
+use slots::arena::Arena;
+use slots::records::{Digit, Grown, Side, Unsound};
 use tree::build::put_node;
 
 // A row that is being grouped: the nodes made so far, then the slots left.
@@ -18,31 +18,29 @@ pub struct Batch {
 pub fn append(part: Option<Digit>, x: u16) -> Result<Option<Digit>, Unsound>
     ensures { result ≡ added part x }
 {
-    match part {
+    match part.map(|digit| digit.grow(Side::Back, x)) {
         None => Ok(Some(Digit::One(x))),
-        Some(digit) => match grow(Side::Back, digit, x) {
-            Grown::Room(more) => Ok(Some(more)),
-            Grown::Over { .. } => Err(Unsound),
-        },
+        Some(Grown::Room(more)) => Ok(Some(more)),
+        Some(Grown::Over { .. }) => Err(Unsound),
     }
 }
 
 // One slot more: where there are four already, the first three leave as a node.
 pub fn feed<R: Copy, M: Measure>(
-    slots: &mut [Record<R, M::Value>],
-    free: &mut Link,
+    arena: &mut Arena<R, M>,
     batch: Batch,
     x: u16,
 ) -> Result<Batch, Unsound>
-    ensures { FedOne M.Item.Weigh.weight M.Measure.means slots.old slots.new free.old free.new batch x result }
+    ensures same { arena.new.slots.ghost_name ≡ arena.old.slots.ghost_name }
+    ensures fed { FedOne M.Item.Weigh.weight M.Measure.means arena.old.slots.now arena.new.slots.now arena.old.free arena.new.free batch x result }
 {
-    match grow(Side::Back, batch.rest, x) {
+    match batch.rest.grow(Side::Back, x) {
         Grown::Room(rest) => Ok(Batch {
             made: batch.made,
             rest,
         }),
         Grown::Over { keep, parts } => {
-            let n = put_node::<R, M>(slots, free, parts)?;
+            let n = put_node(arena, parts)?;
             let made = append(batch.made, n)?;
             Ok(Batch { made, rest: keep })
         }
@@ -50,40 +48,40 @@ pub fn feed<R: Copy, M: Measure>(
 }
 
 pub fn feed_part<R: Copy, M: Measure>(
-    slots: &mut [Record<R, M::Value>],
-    free: &mut Link,
+    arena: &mut Arena<R, M>,
     batch: Batch,
     part: Option<Digit>,
 ) -> Result<Batch, Unsound>
-    ensures { FedPart M.Item.Weigh.weight M.Measure.means slots.old slots.new free.old free.new batch part result }
+    ensures same { arena.new.slots.ghost_name ≡ arena.old.slots.ghost_name }
+    ensures fed { FedPart M.Item.Weigh.weight M.Measure.means arena.old.slots.now arena.new.slots.now arena.old.free arena.new.free batch part result }
 {
     match part {
         None => Ok(batch),
         Some(digit) => {
-            let first = peel(Side::Front, digit);
-            let more = feed::<R, M>(slots, free, batch, first.slot)?;
-            feed_part::<R, M>(slots, free, more, first.rest)
+            let first = digit.peel(Side::Front);
+            let more = feed(arena, batch, first.slot)?;
+            feed_part(arena, more, first.rest)
         }
     }
 }
 
 // The slots left become one or two nodes.
 pub fn finish<R: Copy, M: Measure>(
-    slots: &mut [Record<R, M::Value>],
-    free: &mut Link,
+    arena: &mut Arena<R, M>,
     batch: Batch,
 ) -> Result<Option<Digit>, Unsound>
-    ensures { Finished M.Item.Weigh.weight M.Measure.means slots.old slots.new free.old free.new batch result }
+    ensures same { arena.new.slots.ghost_name ≡ arena.old.slots.ghost_name }
+    ensures finished { Finished M.Item.Weigh.weight M.Measure.means arena.old.slots.now arena.new.slots.now arena.old.free arena.new.free batch result }
 {
     match batch.rest {
         Digit::Four(a, b, c, d) => {
-            let n = put_node::<R, M>(slots, free, Digit::Two(a, b))?;
+            let n = put_node(arena, Digit::Two(a, b))?;
             let made = append(batch.made, n)?;
-            let m = put_node::<R, M>(slots, free, Digit::Two(c, d))?;
+            let m = put_node(arena, Digit::Two(c, d))?;
             append(made, m)
         }
         rest => {
-            let n = put_node::<R, M>(slots, free, rest)?;
+            let n = put_node(arena, rest)?;
             append(batch.made, n)
         }
     }
@@ -91,23 +89,19 @@ pub fn finish<R: Copy, M: Measure>(
 
 // The nodes of the back digit of one level, a part, and the front digit of another.
 pub fn bundle<R: Copy, M: Measure>(
-    slots: &mut [Record<R, M::Value>],
-    free: &mut Link,
+    arena: &mut Arena<R, M>,
     back: Digit,
     part: Option<Digit>,
     front: Digit,
 ) -> Result<Option<Digit>, Unsound>
-    ensures { Bundled M.Item.Weigh.weight M.Measure.means slots.old slots.new free.old free.new back part front result }
+    ensures same { arena.new.slots.ghost_name ≡ arena.old.slots.ghost_name }
+    ensures bundled { Bundled M.Item.Weigh.weight M.Measure.means arena.old.slots.now arena.new.slots.now arena.old.free arena.new.free back part front result }
 {
-    let some = feed_part::<R, M>(
-        slots,
-        free,
-        Batch {
-            made: None,
-            rest: back,
-        },
-        part,
-    )?;
-    let all = feed_part::<R, M>(slots, free, some, Some(front))?;
-    finish::<R, M>(slots, free, all)
+    let none = Batch {
+        made: None,
+        rest: back,
+    };
+    let some = feed_part(arena, none, part)?;
+    let all = feed_part(arena, some, Some(front))?;
+    finish(arena, all)
 }

@@ -1,8 +1,6 @@
 ghost use Rattle.std.specs.Prelude.{◌≡◌, nat_le};
 ghost use Rattle.digit_sum.specs.Digits.{decimal_of, digit_sum_of};
-ghost use Rattle.std.proofs.Common.{arith};
-ghost use Rattle.std.proofs.lemmas.Bool.Decides.{nat_tests};
-ghost use Rattle.digit_sum.specs.DigitLaws.{sum_append};
+ghost use Rattle.digit_sum.specs.DigitLaws.{sum_kept};
 
 use measures::{Measure, Probe};
 
@@ -12,7 +10,7 @@ fn digit(byte: u8) -> u32
     ensures { result ≡ decimal_of byte }
 {
     match byte {
-        b'0'..=b'9' => (byte - b'0') as u32,
+        b'0'..=b'9' => u32::from(byte - b'0'),
         _ => 0,
     }
 }
@@ -50,7 +48,7 @@ pub struct SumReached {
 impl Probe<DigitSum> for SumReached {
     ghost says = { λ p v. nat_le p.sum v };
 
-    ghost keeps = { λ p. record { keeps = λ xs ys light said. let more = sum_append xs ys in Prim.grind (arith, nat_tests) } };
+    ghost keeps = { λ p. sum_kept p.sum };
 
     fn holds(&self, v: &u32) -> bool {
         *v >= self.sum

@@ -1,5 +1,5 @@
 -- The piece that a search by an offset finds is the one in which the offset lies.
-use Rattle.std.proofs.Common.{◌≡◌, ℕ, ◌+◌, ◌-◌, ◌<◌, ◌≤◌, Bool, true, false, ltb, ◌⊎◌, List, [], ◌∷◌, ◌++◌, length, get_or, Some, None, Ok, Err, Option, Result, sym, refl, ap, ◌∙◌, subst, inl, inr, ⊎_elim, arith}
+use Rattle.std.proofs.Common.{◌≡◌, ℕ, ◌-◌, ◌<◌, ◌≤◌, Bool, true, false, ltb, ◌⊎◌, List, [], ◌∷◌, ◌++◌, length, get_or, Some, None, Ok, Err, Option, Result, refl, ap, ◌∙◌, subst, inl, inr, ⊎_elim, arith}
 use Rattle.std.proofs.lemmas.Bool.{ltb-true, ltb-false}
 use Rattle.slots.specs.Ghost.{Finger, none, tree_of, rows, Fit}
 use Rattle.slots.specs.Holds.{most}
@@ -9,12 +9,12 @@ use Rattle.slots.specs.declared.records.Tree.{Tree}
 use Rattle.slots.specs.declared.records.Unsound.{Unsound}
 use Rattle.slots.proofs.Shapes.{ok_err, ok_same}
 use Rattle.seek.specs.Post.{Searched}
-use Rattle.seek.specs.Places.{Past, Found, Never, Finds}
+use Rattle.seek.specs.Places.{Found, Finds}
 use Rattle.pieces.specs.Rows.{bytes_of, AllGood, sizes}
 use Rattle.pieces.specs.Sound.{TextValue, text_means, text_mean}
 use Rattle.pieces.specs.declared.rows.PieceRow.{PieceRow}
 use Rattle.pieces.proofs.RowParts.{sizes_append, all_append, all_left, all_right, flat_size, light}
-use Rattle.edits.specs.Edges.{Falls, edge_of, Lies, EdgeFound}
+use Rattle.edits.specs.Edges.{Falls, EdgeFound}
 use Rattle.edits.specs.declared.edges.Edge.{Edge}
 
 -- more than p bytes

@@ -3,13 +3,14 @@ use Rattle.std.proofs.Common.{◌≡◌, ℕ, ◌+◌, ◌-◌, ◌<◌, ◌≤�
 use Rattle.slots.specs.Ghost.{Arm, Finger, nil, At, same, occ_list, none, head_of, part_of, tree_of, rows_part, rows, occ_part, occ, Fit, Chain, Off}
 use Rattle.slots.specs.Holds.{Holds}
 use Rattle.slots.specs.declared.records.Unsound.{Unsound}
-use Rattle.slots.specs.declared.records.Link.{Link}
+use Rattle.slots.specs.Words.{Link}
 use Rattle.slots.specs.declared.records.Tree.{Tree}
 use Rattle.slots.specs.declared.records.Tree.TheVariants.{Empty}
 use Rattle.slots.specs.declared.records.Record.{Record}
 use Rattle.slots.specs.declared.records.Record.TheVariants.{Leaf}
 use Rattle.slots.specs.declared.records.Digit.{Digit}
 use Rattle.plain.specs.Pieces.{before, after}
+use Rattle.stores.specs.Stores.{Contents}
 use Rattle.slots.proofs.Frames.{occ_list_append, calm_then, off_refl, off_then, off_more, frame}
 use Rattle.slots.proofs.Shapes.{ok_err, ok_same}
 use Rattle.pieces.specs.Leaves.{Bounded, Cuttable, Cut, EndsKept}
@@ -40,30 +41,30 @@ module _ {A : Type 0} {am : List ℕ → A} {rs rs₁ : List (Record PieceRow (T
       → (Uncut (λ _. 1) (text_means am) (past p) (bytes_of B) rs rs₁ f f₁ [] w rf t) ⊎ Parted (λ _. 1) (text_means am) (past p) (bytes_of B) rs rs₁ f₁ [] w rf t fs
   split_of B t fs H = ⊎_elim (λ u. inl u.0) (λ q. inr q) (Sp.splits (bytes_of B) [] t fs H H.light start)
 
-  pub no_split : {S : Type 0} {bytes : S → List ℕ} {capacity reads : S → ℕ} {s : S} {e : Unsound} {r : Result Parts Unsound} → rf ≡ Err e → PartedAt am bytes capacity reads s s rs rs₁ f f₁ tr p r
-  no_split {bytes = bytes} {s = s} bad = record {
+  pub no_split : {S : Type 0} {contents : S → Contents} {s : S} {e : Unsound} {r : Result Parts Unsound} → rf ≡ Err e → PartedAt am contents s s rs rs₁ f f₁ tr p r
+  no_split {contents = contents} {s = s} bad = record {
     parts = λ t fs b g H. absurd (never t fs H);
     few_reads = λ t fs b g H. absurd (never t fs H);
     same_bytes = refl;
     same_capacity = refl;
   }
     where
-      never : (t : Finger PieceRow (TextValue A)) (fs : List ℕ) → Held am (bytes s) rs f tr t fs → ⊥
-      never t fs H = ⊎_elim (λ u. ok_err u.0 bad) (λ q. ok_err q.ok bad) (split_of (bytes s) t fs H)
+      never : (t : Finger PieceRow (TextValue A)) (fs : List ℕ) → Held am (contents s).bytes rs f tr t fs → ⊥
+      never t fs H = ⊎_elim (λ u. ok_err u.0 bad) (λ q. ok_err q.ok bad) (split_of (contents s).bytes t fs H)
 
   -- the offset is at the end
-  pub all_left_of : {S : Type 0} {bytes : S → List ℕ} {capacity reads : S → ℕ} {s : S} → rf ≡ Ok None → PartedAt am bytes capacity reads s s rs rs₁ f f₁ tr p (Ok (record { left = tr; front = None; back = None; right = Empty }))
-  all_left_of {bytes = bytes} {capacity} {reads} {s} got = record {
-    parts = λ t fs b g H. ⊎_elim (λ u. whole t fs g H u) (λ q. absurd (none_some (ok_same got q.ok))) (split_of (bytes s) t fs H);
+  pub all_left_of : {S : Type 0} {contents : S → Contents} {s : S} → rf ≡ Ok None → PartedAt am contents s s rs rs₁ f f₁ tr p (Ok (record { left = tr; front = None; back = None; right = Empty }))
+  all_left_of {contents = contents} {s} got = record {
+    parts = λ t fs b g H. ⊎_elim (λ u. whole t fs g H u) (λ q. absurd (none_some (ok_same got q.ok))) (split_of (contents s).bytes t fs H);
     few_reads = λ t fs b g H. omega arith;
     same_bytes = refl;
     same_capacity = refl;
   }
     where
-      whole : (t : Finger PieceRow (TextValue A)) (fs : List ℕ) → AllGood (bytes s) (rows t) → Held am (bytes s) rs f tr t fs → Uncut (λ _. 1) (text_means am) (past p) (bytes_of (bytes s)) rs rs₁ f f₁ [] w rf t
-          → Apart am bytes capacity reads (bytes s) rs rs₁ f₁ p (Ok (record { left = tr; front = None; back = None; right = Empty })) t fs
+      whole : (t : Finger PieceRow (TextValue A)) (fs : List ℕ) → AllGood (contents s).bytes (rows t) → Held am (contents s).bytes rs f tr t fs → Uncut (λ _. 1) (text_means am) (past p) (bytes_of (contents s).bytes) rs rs₁ f f₁ [] w rf t
+          → Apart am contents (contents s).bytes rs rs₁ f₁ p (Ok (record { left = tr; front = None; back = None; right = Empty })) t fs
       whole t fs g H u =
-          let over : sizes (rows t) ≤ p = past_no am (bytes s) p (rows t) g u.3.no in
+          let over : sizes (rows t) ≤ p = past_no am (contents s).bytes p (rows t) g u.3.no in
           let same_rs : rs₁ ≡ rs = u.1 in record {
             l = t;
             F = None;
@@ -77,9 +78,9 @@ module _ {A : Type 0} {am : List ℕ → A} {rs rs₁ : List (Record PieceRow (T
             after_is = sym (after_all (rows t) p over);
             small_f = omega arith;
             small_g = omega arith;
-            good_before = subst (AllGood (bytes s)) (sym (append-nil (rows t))) g;
+            good_before = subst (AllGood (contents s).bytes) (sym (append-nil (rows t))) g;
             good_after = tt;
-            fit_l = subst (λ x. Fit (text_mean am (bytes s)) x t 0) (sym same_rs) H.fit;
+            fit_l = subst (λ x. Fit (text_mean am (contents s).bytes) x t 0) (sym same_rs) H.fit;
             fit_f = tt;
             fit_g = tt;
             fit_q = tt;
@@ -91,28 +92,28 @@ module _ {A : Type 0} {am : List ℕ → A} {rs rs₁ : List (Record PieceRow (T
             fresh = λ i z. inr (ap (λ x. get_or x i none) same_rs);
           }
 
-  module _ {S : Type 0} {bytes : S → List ℕ} {capacity reads : S → ℕ} {s : S} {h : Halves} (got : rf ≡ Ok (Some h)) {s' : S} {rs₂ : List (Record PieceRow (TextValue A))} {f₂ : Link} {k : ℕ} {re : Result Ends Unsound}
-      (is-k : k ≡ p - w.left.left.bytes) (E : EndsKept (text_means am) bytes capacity reads s s' rs₁ rs₂ f₁ f₂ h.at k k re) where
-    parted_of : (t : Finger PieceRow (TextValue A)) (fs : List ℕ) → Held am (bytes s) rs f tr t fs → Parted (λ _. 1) (text_means am) (past p) (bytes_of (bytes s)) rs rs₁ f₁ [] w rf t fs
-    parted_of t fs H = ⊎_elim (λ u. absurd (none_some (sym (ok_same got u.0)))) (λ q. q) (split_of (bytes s) t fs H)
+  module _ {S : Type 0} {contents : S → Contents} {s : S} {h : Halves} (got : rf ≡ Ok (Some h)) {s' : S} {rs₂ : List (Record PieceRow (TextValue A))} {f₂ : Link} {k : ℕ} {re : Result Ends Unsound}
+      (is-k : k ≡ p - w.left.left.bytes) (E : EndsKept (text_means am) contents s s' rs₁ rs₂ f₁ f₂ h.at k k re) where
+    parted_of : (t : Finger PieceRow (TextValue A)) (fs : List ℕ) → Held am (contents s).bytes rs f tr t fs → Parted (λ _. 1) (text_means am) (past p) (bytes_of (contents s).bytes) rs rs₁ f₁ [] w rf t fs
+    parted_of t fs H = ⊎_elim (λ u. absurd (none_some (sym (ok_same got u.0)))) (λ q. q) (split_of (contents s).bytes t fs H)
 
     -- what keep_ends starts from
-    record Ready (t : Finger PieceRow (TextValue A)) (fs : List ℕ) (H : Held am (bytes s) rs f tr t fs) : Type 0 where
+    record Ready (t : Finger PieceRow (TextValue A)) (fs : List ℕ) (H : Held am (contents s).bytes rs f tr t fs) : Type 0 where
       pub falls : Falls p (rows t)
       pub k_is : k ≡ p - sizes (rows (parted_of t fs H).l)
       pub at_is : (parted_of t fs H).i ≡ h.at
       pub low : sizes (rows (parted_of t fs H).l) ≤ p
       pub high : k < (parted_of t fs H).row.length
-      pub cuttable : Cuttable (text_means am) bytes capacity reads s rs₁ f₁ h.at k k (parted_of t fs H).row (parted_of t fs H).value (parted_of t fs H).fs'
+      pub cuttable : Cuttable (text_means am) contents s rs₁ f₁ h.at k k (parted_of t fs H).row (parted_of t fs H).value (parted_of t fs H).fs'
 
-    ready : (t : Finger PieceRow (TextValue A)) (fs : List ℕ) → Bounded bytes capacity s → AllGood (bytes s) (rows t) → (H : Held am (bytes s) rs f tr t fs) → Ready t fs H
+    ready : (t : Finger PieceRow (TextValue A)) (fs : List ℕ) → Bounded contents s → AllGood (contents s).bytes (rows t) → (H : Held am (contents s).bytes rs f tr t fs) → Ready t fs H
     unfolding falls_at
     ready t fs b g H =
         let Q = parted_of t fs H in
-        let good : AllGood (bytes s) (rows Q.l ++ (Q.row ∷ rows Q.q)) = subst (AllGood (bytes s)) Q.text g in
-        let falls = falls_at am (bytes s) p (rows t) (rows Q.l) Q.row (rows Q.q) g Q.text Q.past.no Q.yes in
-        let low : sizes (rows Q.l) ≤ p = past_no am (bytes s) p (rows Q.l) (all_left (bytes s) (rows Q.l) (Q.row ∷ rows Q.q) good) Q.past.no in
-        let bytes_are : w.left.left.bytes ≡ sizes (rows Q.l) = ap (λ (x : TextValue A). x.left.left.bytes) Q.past.place ∙ flat_size (bytes s) (rows Q.l) (all_left (bytes s) (rows Q.l) (Q.row ∷ rows Q.q) good) in
+        let good : AllGood (contents s).bytes (rows Q.l ++ (Q.row ∷ rows Q.q)) = subst (AllGood (contents s).bytes) Q.text g in
+        let falls = falls_at am (contents s).bytes p (rows t) (rows Q.l) Q.row (rows Q.q) g Q.text Q.past.no Q.yes in
+        let low : sizes (rows Q.l) ≤ p = past_no am (contents s).bytes p (rows Q.l) (all_left (contents s).bytes (rows Q.l) (Q.row ∷ rows Q.q) good) Q.past.no in
+        let bytes_are : w.left.left.bytes ≡ sizes (rows Q.l) = ap (λ (x : TextValue A). x.left.left.bytes) Q.past.place ∙ flat_size (contents s).bytes (rows Q.l) (all_left (contents s).bytes (rows Q.l) (Q.row ∷ rows Q.q) good) in
         let k_is : k ≡ p - sizes (rows Q.l) = omega arith in
         let at_is : Q.i ≡ h.at = ap (λ (x : Halves). x.at) (some_same (ok_same Q.ok got)) in
         let high : k < Q.row.length = omega (arith, falls.within) in record {
@@ -125,7 +126,7 @@ module _ {A : Type 0} {am : List ℕ → A} {rs rs₁ : List (Record PieceRow (T
             bounded = b;
             at = subst (λ (i : ℕ). At rs₁ i (Leaf Q.row Q.value)) at_is Q.at;
             value = Q.right;
-            good = (all_right (bytes s) (rows Q.l) (Q.row ∷ rows Q.q) good).0;
+            good = (all_right (contents s).bytes (rows Q.l) (Q.row ∷ rows Q.q) good).0;
             order = omega arith;
             within = omega arith;
             first = Q.first;
@@ -135,7 +136,7 @@ module _ {A : Type 0} {am : List ℕ → A} {rs rs₁ : List (Record PieceRow (T
           };
         }
 
-    pub no_ends : {e : Unsound} {r : Result Parts Unsound} → re ≡ Err e → PartedAt am bytes capacity reads s s' rs rs₂ f f₂ tr p r
+    pub no_ends : {e : Unsound} {r : Result Parts Unsound} → re ≡ Err e → PartedAt am contents s s' rs rs₂ f f₂ tr p r
     no_ends bad = record {
       parts = λ t fs b g H. absurd (ok_err (E.keeps _ _ _ (ready t fs b g H).cuttable).ok bad);
       few_reads = λ t fs b g H. E.few_reads _ _ _ (ready t fs b g H).cuttable;
@@ -143,7 +144,7 @@ module _ {A : Type 0} {am : List ℕ → A} {rs rs₁ : List (Record PieceRow (T
       same_capacity = E.same_capacity;
     }
 
-    pub halved_at : {x : Ends} → re ≡ Ok x → PartedAt am bytes capacity reads s s' rs rs₂ f f₂ tr p (Ok (record { left = h.left; front = x.front; back = x.back; right = h.right }))
+    pub halved_at : {x : Ends} → re ≡ Ok x → PartedAt am contents s s' rs rs₂ f f₂ tr p (Ok (record { left = h.left; front = x.front; back = x.back; right = h.right }))
     halved_at {x} got-x = record {
       parts = λ t fs b g H.
           let Q = parted_of t fs H in
@@ -151,9 +152,9 @@ module _ {A : Type 0} {am : List ℕ → A} {rs rs₁ : List (Record PieceRow (T
           let C = E.keeps _ _ _ D.cuttable in
           let h_is = some_same (ok_same Q.ok got) in
           let x-is = ok_same C.ok got-x in
-          let good : AllGood (bytes s) (rows Q.l ++ (Q.row ∷ rows Q.q)) = subst (AllGood (bytes s)) Q.text g in
-          let gl = all_left (bytes s) (rows Q.l) (Q.row ∷ rows Q.q) good in
-          let gr = all_right (bytes s) (rows Q.l) (Q.row ∷ rows Q.q) good in
+          let good : AllGood (contents s).bytes (rows Q.l ++ (Q.row ∷ rows Q.q)) = subst (AllGood (contents s).bytes) Q.text g in
+          let gl = all_left (contents s).bytes (rows Q.l) (Q.row ∷ rows Q.q) good in
+          let gr = all_right (contents s).bytes (rows Q.l) (Q.row ∷ rows Q.q) good in
           let at : p ≡ sizes (rows Q.l) + k = omega (arith, D.k_is, D.low) in
           let same_at : (j : ℕ) → same Q.i j ≡ same h.at j = λ j. ap (λ (i : ℕ). same i j) D.at_is in
           record {
@@ -165,16 +166,16 @@ module _ {A : Type 0} {am : List ℕ → A} {rs rs₁ : List (Record PieceRow (T
             js = C.js;
             ok = parts_same (ap (λ (y : Halves). y.left) (sym h_is)) (ap (λ (y : Ends). y.front) (sym x-is)) (ap (λ (y : Ends). y.back) (sym x-is)) (ap (λ (y : Halves). y.right) (sym h_is));
             first = C.first;
-            before_is = ap (λ (l : List PieceRow). map piece_of (rows Q.l ++ l)) C.rows_front ∙ sym (ap (λ (l : List PieceRow). before p (map piece_of l)) Q.text ∙ before_at (bytes s) (rows Q.l) Q.row (rows Q.q) p k gr at (omega (arith, D.high)));
-            after_is = ap (λ (l : List PieceRow). map piece_of (l ++ rows Q.q)) C.rows_back ∙ sym (ap (λ (l : List PieceRow). after p (map piece_of l)) Q.text ∙ after_at (bytes s) (rows Q.l) Q.row (rows Q.q) p k gr at (omega (arith, D.high)));
+            before_is = ap (λ (l : List PieceRow). map piece_of (rows Q.l ++ l)) C.rows_front ∙ sym (ap (λ (l : List PieceRow). before p (map piece_of l)) Q.text ∙ before_at (contents s).bytes (rows Q.l) Q.row (rows Q.q) p k gr at (omega (arith, D.high)));
+            after_is = ap (λ (l : List PieceRow). map piece_of (l ++ rows Q.q)) C.rows_back ∙ sym (ap (λ (l : List PieceRow). after p (map piece_of l)) Q.text ∙ after_at (contents s).bytes (rows Q.l) Q.row (rows Q.q) p k gr at (omega (arith, D.high)));
             small_f = C.small_front;
             small_g = C.small_back;
-            good_before = all_append (bytes s) (rows Q.l) (rows_part C.F) gl (subst (AllGood (bytes s)) (sym C.rows_front) (front_good (bytes s) k Q.row (omega (arith, D.high)) gr.0));
-            good_after = all_append (bytes s) (rows_part C.G) (rows Q.q) (subst (AllGood (bytes s)) (sym C.rows_back) (rest_good (bytes s) k Q.row gr.0)) gr.1;
-            fit_l = frame C.frame (text_mean am (bytes s)) Q.l 0 (λ j. omega (arith, Q.kept j, H.once j, same_at j)) Q.fit_l;
+            good_before = all_append (contents s).bytes (rows Q.l) (rows_part C.F) gl (subst (AllGood (contents s).bytes) (sym C.rows_front) (front_good (contents s).bytes k Q.row (omega (arith, D.high)) gr.0));
+            good_after = all_append (contents s).bytes (rows_part C.G) (rows Q.q) (subst (AllGood (contents s).bytes) (sym C.rows_back) (rest_good (contents s).bytes k Q.row gr.0)) gr.1;
+            fit_l = frame C.frame (text_mean am (contents s).bytes) Q.l 0 (λ j. omega (arith, Q.kept j, H.once j, same_at j)) Q.fit_l;
             fit_f = C.fit_front;
             fit_g = C.fit_back;
-            fit_q = frame C.frame (text_mean am (bytes s)) Q.q 0 (λ j. omega (arith, Q.kept j, H.once j, same_at j)) Q.fit_r;
+            fit_q = frame C.frame (text_mean am (contents s).bytes) Q.q 0 (λ j. omega (arith, Q.kept j, H.once j, same_at j)) Q.fit_r;
             chain = C.chain;
             kept = λ j. omega (arith, Q.kept j, C.kept j, same_at j);
             frame = off_more _ (λ j z. omega (arith, Q.kept j, same_at j)) (off_then Q.frame C.frame);

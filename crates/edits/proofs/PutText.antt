@@ -2,11 +2,12 @@
 use Rattle.std.proofs.Common.{◌≡◌, ℕ, ◌+◌, ◌*◌, ◌<◌, ◌≤◌, ◌⊎◌, List, [], ◌∷◌, ◌++◌, map, length, get_or, set, Some, None, Ok, Err, Option, Result, sym, refl, ap, ◌∙◌, subst, ap₂, inl, inr, append_assoc, arith, length-append}
 use Rattle.plain.specs.Machine.{limit}
 use Rattle.plain.specs.Pieces.{Piece, before, after}
+use Rattle.stores.specs.Stores.{Contents}
 use Rattle.slots.specs.Ghost.{Twig, leaf, two, three, Arm, a1, a2, a3, a4, Finger, root, same, named, occ_list, none, head_of, part_of, tree_of, rows_part, rows, size_part, levels, occ_part, occ, At, FitPart, Fit, Chain, Calm, Off}
 use Rattle.slots.specs.Holds.{Holds, Beside}
 use Rattle.slots.specs.Post.{LeafPut}
 use Rattle.slots.specs.declared.records.Unsound.{Unsound}
-use Rattle.slots.specs.declared.records.Link.{Link}
+use Rattle.slots.specs.Words.{Link}
 use Rattle.slots.specs.declared.records.Tree.{Tree}
 use Rattle.slots.specs.declared.records.Digit.{Digit}
 use Rattle.slots.specs.declared.records.Record.{Record}
@@ -59,18 +60,18 @@ three_of mn rs F G i x v ff fg sf sg = small mn rs (λ F. Three mn rs F G i x v)
     F ff sf
 
 -- What is known at each step of a put: the tree t was taken apart, and the row x has a leaf.
-module _ {A S : Type 0} {am : List ℕ → A} {bytes : S → List ℕ} {capacity reads : S → ℕ} {s s' : S} {rs rs₁ : List (Record PieceRow (TextValue A))} {f f₁ : Link} {tr : Tree} {p : ℕ} {rp : Result Parts Unsound}
-    (K : PartedAt am bytes capacity reads s s' rs rs₁ f f₁ tr p rp) (x : PieceRow) (v : TextValue A) where
+module _ {A S : Type 0} {am : List ℕ → A} {contents : S → Contents} {s s' : S} {rs rs₁ : List (Record PieceRow (TextValue A))} {f f₁ : Link} {tr : Tree} {p : ℕ} {rp : Result Parts Unsound}
+    (K : PartedAt am contents s s' rs rs₁ f f₁ tr p rp) (x : PieceRow) (v : TextValue A) where
   abbrev mn : List PieceRow → TextValue A
-  mn = text_mean am (bytes s)
+  mn = text_mean am (contents s).bytes
 
   abbrev G₀ : Finger PieceRow (TextValue A) → List Piece
   G₀ t = before p (map piece_of (rows t)) ++ (piece_of x ∷ after p (map piece_of (rows t)))
 
-  pub few_put : (t : Finger PieceRow (TextValue A)) (fs : List ℕ) → Bounded bytes capacity s → AllGood (bytes s) (rows t) → Laid mn rs f tr t fs → reads s' ≤ reads s + 256
+  pub few_put : (t : Finger PieceRow (TextValue A)) (fs : List ℕ) → Bounded contents s → AllGood (contents s).bytes (rows t) → Laid mn rs f tr t fs → (contents s').reads ≤ (contents s).reads + 256
   few_put t fs b g L = K.few_reads t fs b g (text_holds g L)
 
-  pub put_no_parts : {e : Unsound} {r : Result Tree Unsound} → rp ≡ Err e → PutInto am bytes capacity reads s s' rs rs₁ f f₁ tr p x v r
+  pub put_no_parts : {e : Unsound} {r : Result Tree Unsound} → rp ≡ Err e → PutInto am contents s s' rs rs₁ f f₁ tr p x v r
   put_no_parts bad = record {
     puts = λ t fs b g L gx ev few. absurd (ok_err (K.parts t fs b g (text_holds g L)).ok bad);
     few_reads = few_put;
@@ -80,8 +81,8 @@ module _ {A S : Type 0} {am : List ℕ → A} {bytes : S → List ℕ} {capacity
 
   module _ {q : Parts} (got : rp ≡ Ok q) {rs₂ : List (Record PieceRow (TextValue A))} {f₂ : Link} {ri : Result ℕ Unsound} (L₁ : LeafPut rs₁ rs₂ f₁ f₂ x v ri) where
     -- the new leaf
-    pub record Leafed (t : Finger PieceRow (TextValue A)) (fs : List ℕ) (b : Bounded bytes capacity s) (g : AllGood (bytes s) (rows t)) (L : Laid mn rs f tr t fs) : Type 0 where
-      pub D : Apart am bytes capacity reads (bytes s) rs rs₁ f₁ p rp t fs
+    pub record Leafed (t : Finger PieceRow (TextValue A)) (fs : List ℕ) (b : Bounded contents s) (g : AllGood (contents s).bytes (rows t)) (L : Laid mn rs f tr t fs) : Type 0 where
+      pub D : Apart am contents (contents s).bytes rs rs₁ f₁ p rp t fs
       pub n : ℕ
       pub ns : List ℕ
       pub leaf_is : ri ≡ Ok n
@@ -92,13 +93,13 @@ module _ {A S : Type 0} {am : List ℕ → A} {bytes : S → List ℕ} {capacity
       pub fit_g : FitPart mn rs₂ D.G 0
       pub fit_q : Fit mn rs₂ D.q 0
 
-    leafed : (t : Finger PieceRow (TextValue A)) (fs : List ℕ) (b : Bounded bytes capacity s) (g : AllGood (bytes s) (rows t)) (L : Laid mn rs f tr t fs) → Leafed t fs b g L
+    leafed : (t : Finger PieceRow (TextValue A)) (fs : List ℕ) (b : Bounded contents s) (g : AllGood (contents s).bytes (rows t)) (L : Laid mn rs f tr t fs) → Leafed t fs b g L
     leafed t fs b g L = from_chain D.fs' refl
       where
-        H : Holds (λ _. 1) (text_means am) (bytes_of (bytes s)) rs f tr t fs
+        H : Holds (λ _. 1) (text_means am) (bytes_of (contents s).bytes) rs f tr t fs
         H = text_holds g L
 
-        D : Apart am bytes capacity reads (bytes s) rs rs₁ f₁ p rp t fs
+        D : Apart am contents (contents s).bytes rs rs₁ f₁ p rp t fs
         D = K.parts t fs b g H
 
         τ : ℕ → ℕ
@@ -133,7 +134,7 @@ module _ {A S : Type 0} {am : List ℕ → A} {bytes : S → List ℕ} {capacity
               fit_q = stays_tree (λ _. 0) (λ i. occ D.l i + (occ_part D.F i + (occ_part D.G i + occ D.q i))) bench₁ off mn D.q 0 (λ i. omega arith) D.fit_q;
             }
 
-    pub put_no_leaf : {e : Unsound} {r : Result Tree Unsound} → ri ≡ Err e → PutInto am bytes capacity reads s s' rs rs₂ f f₂ tr p x v r
+    pub put_no_leaf : {e : Unsound} {r : Result Tree Unsound} → ri ≡ Err e → PutInto am contents s s' rs rs₂ f f₂ tr p x v r
     put_no_leaf bad = record {
       puts = λ t fs b g L gx ev few. absurd (ok_err (leafed t fs b g L).leaf_is bad);
       few_reads = few_put;
@@ -142,15 +143,15 @@ module _ {A S : Type 0} {am : List ℕ → A} {bytes : S → List ℕ} {capacity
     }
 
     module _ {i : ℕ} (got-i : ri ≡ Ok i) {ra : Result (Option Digit) Unsound} (is-a : ra ≡ added q.front i) where
-      threes : (t : Finger PieceRow (TextValue A)) (fs : List ℕ) (b : Bounded bytes capacity s) (g : AllGood (bytes s) (rows t)) (L : Laid mn rs f tr t fs)
+      threes : (t : Finger PieceRow (TextValue A)) (fs : List ℕ) (b : Bounded contents s) (g : AllGood (contents s).bytes (rows t)) (L : Laid mn rs f tr t fs)
           → Three mn rs₂ (leafed t fs b g L).D.F (leafed t fs b g L).D.G i x v
       threes t fs b g L = let E = leafed t fs b g L in three_of mn rs₂ E.D.F E.D.G i x v E.fit_f E.fit_g E.D.small_f E.D.small_g
 
-      front_is : (t : Finger PieceRow (TextValue A)) (fs : List ℕ) (b : Bounded bytes capacity s) (g : AllGood (bytes s) (rows t)) (L : Laid mn rs f tr t fs)
+      front_is : (t : Finger PieceRow (TextValue A)) (fs : List ℕ) (b : Bounded contents s) (g : AllGood (contents s).bytes (rows t)) (L : Laid mn rs f tr t fs)
           → q ≡ (let D = (leafed t fs b g L).D in record { left = tree_of D.l; front = part_of D.F; back = part_of D.G; right = tree_of D.q })
       front_is t fs b g L = ok_same got (leafed t fs b g L).D.ok
 
-      pub put_no_two : {e : Unsound} {r : Result Tree Unsound} → ra ≡ Err e → PutInto am bytes capacity reads s s' rs rs₂ f f₂ tr p x v r
+      pub put_no_two : {e : Unsound} {r : Result Tree Unsound} → ra ≡ Err e → PutInto am contents s s' rs rs₂ f f₂ tr p x v r
       put_no_two bad = record {
         puts = λ t fs b g L gx ev few.
             let T = threes t fs b g L in
@@ -161,13 +162,13 @@ module _ {A S : Type 0} {am : List ℕ → A} {bytes : S → List ℕ} {capacity
       }
 
       module _ {u : Option Digit} (got-a : ra ≡ Ok u) {rb : Result (Option Digit) Unsound} (is_b : rb ≡ added_one u q.back) where
-        all_is : (t : Finger PieceRow (TextValue A)) (fs : List ℕ) (b : Bounded bytes capacity s) (g : AllGood (bytes s) (rows t)) (L : Laid mn rs f tr t fs) → rb ≡ Ok (part_of (threes t fs b g L).Q)
+        all_is : (t : Finger PieceRow (TextValue A)) (fs : List ℕ) (b : Bounded contents s) (g : AllGood (contents s).bytes (rows t)) (L : Laid mn rs f tr t fs) → rb ≡ Ok (part_of (threes t fs b g L).Q)
         all_is t fs b g L =
             let T = threes t fs b g L in
             let u-is : u ≡ T.some = ok_same got-a (is-a ∙ ap (λ (y : Parts). added y.front i) (front_is t fs b g L) ∙ T.two_are) in
             is_b ∙ ap₂ added_one u-is (ap (λ (y : Parts). y.back) (front_is t fs b g L)) ∙ T.all_are
 
-        pub put_no_all : {e : Unsound} {r : Result Tree Unsound} → rb ≡ Err e → PutInto am bytes capacity reads s s' rs rs₂ f f₂ tr p x v r
+        pub put_no_all : {e : Unsound} {r : Result Tree Unsound} → rb ≡ Err e → PutInto am contents s s' rs rs₂ f f₂ tr p x v r
         put_no_all bad = record {
           puts = λ t fs b g L gx ev few. absurd (ok_err (all_is t fs b g L) bad);
           few_reads = few_put;
@@ -177,7 +178,7 @@ module _ {A S : Type 0} {am : List ℕ → A} {bytes : S → List ℕ} {capacity
 
         module _ {d : Option Digit} (got-b : rb ≡ Ok d) {rs₃ : List (Record PieceRow (TextValue A))} {f₃ : Link} {r : Result Tree Unsound}
             (C : Concat (λ _. 1) (text_means am) rs₂ rs₃ f₂ f₃ q.left d q.right r) where
-          pub put_made : PutInto am bytes capacity reads s s' rs rs₃ f f₃ tr p x v r
+          pub put_made : PutInto am contents s s' rs rs₃ f f₃ tr p x v r
           put_made = record {
             puts = λ t fs b g L gx ev few. made t fs b g L gx ev few;
             few_reads = few_put;
@@ -185,8 +186,8 @@ module _ {A S : Type 0} {am : List ℕ → A} {bytes : S → List ℕ} {capacity
             same_capacity = K.same_capacity;
           }
             where
-              made : (t : Finger PieceRow (TextValue A)) (fs : List ℕ) (b : Bounded bytes capacity s) (g : AllGood (bytes s) (rows t)) (L : Laid mn rs f tr t fs) → Good (bytes s) x → v ≡ mn (x ∷ []) → length (G₀ t) ≤ limit (length rs)
-                  → TextMade am (bytes s) rs rs₃ f₃ r (G₀ t) 4 3
+              made : (t : Finger PieceRow (TextValue A)) (fs : List ℕ) (b : Bounded contents s) (g : AllGood (contents s).bytes (rows t)) (L : Laid mn rs f tr t fs) → Good (contents s).bytes x → v ≡ mn (x ∷ []) → length (G₀ t) ≤ limit (length rs)
+                  → TextMade am (contents s).bytes rs rs₃ f₃ r (G₀ t) 4 3
               made t fs b g L gx ev few =
                   let E = leafed t fs b g L in
                   let D = E.D in
@@ -201,7 +202,7 @@ module _ {A S : Type 0} {am : List ℕ → A} {bytes : S → List ℕ} {capacity
                   ap (map piece_of) regroup
                   ∙ map_append piece_of (rows D.l ++ rows_part D.F) (x ∷ (rows_part D.G ++ rows D.q))
                   ∙ ap₂ (λ (l k : List Piece). l ++ (piece_of x ∷ k)) D.before_is D.after_is in
-                  let good : AllGood (bytes s) xs = subst (AllGood (bytes s)) (sym regroup) (all_append (bytes s) (rows D.l ++ rows_part D.F) (x ∷ (rows_part D.G ++ rows D.q)) D.good_before (gx, D.good_after)) in
+                  let good : AllGood (contents s).bytes xs = subst (AllGood (contents s).bytes) (sym regroup) (all_append (contents s).bytes (rows D.l ++ rows_part D.F) (x ∷ (rows_part D.G ++ rows D.q)) D.good_before (gx, D.good_after)) in
                   let count : length xs ≤ limit (length rs) = omega (arith, few, length_map piece_of xs, ap length pieces) in
                   let small : length xs ≤ 4100 = few_most (length xs) (length rs) count L.most in
                   let occs : (j : ℕ) → same E.n j + (occ D.l j + (occ_part D.F j + (occ_part D.G j + occ D.q j))) ≡ (occ D.l j + (occ_part T.Q j + occ D.q j)) + 0 =
@@ -210,7 +211,7 @@ module _ {A S : Type 0} {am : List ℕ → A} {bytes : S → List ℕ} {capacity
                   let at : At rs₂ i (Leaf x v) = subst (λ (k : ℕ). At rs₂ k (Leaf x v)) n-is E.at in
                   let q-is = front_is t fs b g L in
                   let spare : length rs ≤ 2 * length xs + length E.ns = bench_spare (2 * length xs) (bench_by (λ j. occ D.l j + (occ_part T.Q j + occ D.q j)) (λ j. omega arith) bench) (between_count (length rs) D.l T.Q D.q) in
-                  let M : Melt (λ _. 1) (text_means am) (bytes_of (bytes s)) rs₂ rs₃ f₃ r D.l T.Q D.q E.ns 0 = C.melts (bytes_of (bytes s)) D.l T.Q D.q E.ns (record {
+                  let M : Melt (λ _. 1) (text_means am) (bytes_of (contents s).bytes) rs₂ rs₃ f₃ r D.l T.Q D.q E.ns 0 = C.melts (bytes_of (contents s).bytes) D.l T.Q D.q E.ns (record {
                     left = sym (ap (λ (y : Parts). y.left) q-is);
                     between = ok_same (all_is t fs b g L) got-b;
                     right = sym (ap (λ (y : Parts). y.right) q-is);
@@ -220,7 +221,7 @@ module _ {A S : Type 0} {am : List ℕ → A} {bytes : S → List ℕ} {capacity
                     fit_r = E.fit_q;
                     chain = bench.chain;
                     once = λ j. omega (arith, bench_once bench j);
-                    light = light (bytes s) xs good small;
+                    light = light (contents s).bytes xs good small;
                     small = small;
                     long = omega (arith, count, L.least);
                   }) in
@@ -246,7 +247,7 @@ module _ {A S : Type 0} {am : List ℕ → A} {bytes : S → List ℕ} {capacity
                     };
                     len = last.len;
                     pieces = ap (map piece_of) Z.text ∙ pieces;
-                    good = subst (AllGood (bytes s)) (sym Z.text) good;
+                    good = subst (AllGood (contents s).bytes) (sym Z.text) good;
                     few = omega (arith, M.few, D.few, length-append (D.js ++ (E.n ∷ [])) Z.js, length-append D.js (E.n ∷ []));
                     fresh = last.fresh;
                   }

@@ -4,7 +4,7 @@ use Rattle.plain.specs.Machine.{limit}
 use Rattle.slots.specs.Ghost.{Arm, Finger, named, occ_list, rows_part, rows, occ_part, occ}
 use Rattle.slots.specs.Holds.{Holds}
 use Rattle.slots.specs.Theorems.{total}
-use Rattle.slots.specs.declared.records.Link.{Link}
+use Rattle.slots.specs.Words.{Link}
 use Rattle.slots.specs.declared.records.Tree.{Tree}
 use Rattle.slots.specs.declared.records.Record.{Record}
 use Rattle.slots.proofs.Counts.{total_add, tree_count, part_count, named_le, supply}

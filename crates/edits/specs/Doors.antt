@@ -1,8 +1,8 @@
 -- What is asked before an edit, of the rows of a text: in this order, with the fault at a no.
-use Rattle.std.specs.Prelude.{◌≡◌, ℕ, ◌+◌, ◌≤◌, Bool, true, false, not, ◌&&◌, ◌||◌, List, [], ◌∷◌, ◌++◌, map, length, Some, None, Ok, Err, Option, Result, ◌==◌, nat_le, nat_lt}
+use Rattle.std.specs.Prelude.{◌≡◌, ℕ, ◌+◌, ◌≤◌, Bool, false, not, ◌&&◌, ◌||◌, List, [], ◌∷◌, map, length, Some, None, Ok, Option, Result, ◌==◌, nat_le, nat_lt}
 use Rattle.plain.specs.Lists.{first_no}
 use Rattle.plain.specs.Machine.{limit}
-use Rattle.plain.specs.Pieces.{Piece, before, after}
+use Rattle.plain.specs.Pieces.{Piece}
 use Rattle.plain.specs.declared.faults.TextFault.{TextFault}
 use Rattle.plain.specs.declared.faults.TextFault.TheVariants.{Length, Offset, Pieces, Marks}
 use Rattle.slots.specs.Ghost.{Finger, tree_of, rows, Fit}
@@ -14,8 +14,7 @@ use Rattle.pieces.specs.Asked.{result_of}
 use Rattle.pieces.specs.Rows.{piece_of, AllGood, sizes}
 use Rattle.pieces.specs.Sound.{TextValue, text_mean}
 use Rattle.pieces.specs.declared.rows.PieceRow.{PieceRow}
-use Rattle.pieces.specs.declared.head.Head.{Head}
-use Rattle.edits.specs.Counts.{inside, start}
+use Rattle.edits.specs.Counts.{inside, is_inside, start}
 use Rattle.edits.specs.declared.doors.Spot.{Spot}
 use Rattle.edits.specs.declared.edges.Edge.{Edge}
 
@@ -64,12 +63,12 @@ module _ {A : Type 0} (am : List ℕ → A) (rs : List (Record PieceRow (TextVal
   pub record SizeTold (r : Result ℕ Unsound) : Type 0 where
     pub tells : (B : List ℕ) (t : Finger PieceRow (TextValue A)) → tree_of t ≡ tr → Fit (text_mean am B) rs t 0 → AllGood B (rows t) → r ≡ Ok (sizes (rows t))
 
-  pub record HalvesTold (p : ℕ) (r : Result ℕ Unsound) : Type 0 where
-    pub tells : (B : List ℕ) (t : Finger PieceRow (TextValue A)) → tree_of t ≡ tr → Fit (text_mean am B) rs t 0 → AllGood B (rows t) → length (rows t) ≤ most → r ≡ Ok (inside p (map piece_of (rows t)))
+  pub record HalvesTold (p : ℕ) (r : Result Bool Unsound) : Type 0 where
+    pub tells : (B : List ℕ) (t : Finger PieceRow (TextValue A)) → tree_of t ≡ tr → Fit (text_mean am B) rs t 0 → AllGood B (rows t) → length (rows t) ≤ most → r ≡ Ok (is_inside p (map piece_of (rows t)))
 
   pub record SpotTold (p : ℕ) (r : Result Spot TextFault) : Type 0 where
     pub tells : (B : List ℕ) (t : Finger PieceRow (TextValue A)) → tree_of t ≡ tr → Fit (text_mean am B) rs t 0 → AllGood B (rows t) → length (rows t) ≤ most
-        → r ≡ Ok (record { size = sizes (rows t); more = inside p (map piece_of (rows t)) })
+        → r ≡ Ok (record { size = sizes (rows t); halves = is_inside p (map piece_of (rows t)) })
 
   pub record OneTold (a b : ℕ) (r : Result Bool TextFault) : Type 0 where
     pub tells : (B : List ℕ) (t : Finger PieceRow (TextValue A)) → tree_of t ≡ tr → Fit (text_mean am B) rs t 0 → AllGood B (rows t) → length (rows t) ≤ most

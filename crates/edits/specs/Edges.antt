@@ -1,5 +1,5 @@
 -- Where an offset falls among rows.
-use Rattle.std.specs.Prelude.{◌≡◌, ℕ, ◌+◌, ◌<◌, ◌≤◌, ◌⊎◌, List, [], ◌∷◌, ◌++◌, length, Some, None, Ok, Err, Option, Result}
+use Rattle.std.specs.Prelude.{◌≡◌, ℕ, ◌+◌, ◌<◌, ◌≤◌, ◌⊎◌, List, ◌∷◌, ◌++◌, length, Some, None, Ok, Option, Result}
 use Rattle.slots.specs.Ghost.{Finger, tree_of, rows, Fit}
 use Rattle.slots.specs.Holds.{most}
 use Rattle.slots.specs.declared.records.Record.{Record}

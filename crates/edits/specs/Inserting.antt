@@ -2,10 +2,11 @@
 use Rattle.std.specs.Prelude.{◌≡◌, ℕ, ◌+◌, ◌*◌, ◌≤◌, List, [], ◌∷◌, ◌++◌, map, length, Some, None, Ok, Err, Option, Result, slice_index_or}
 use Rattle.plain.specs.Machine.{limit}
 use Rattle.plain.specs.Pieces.{Piece, before, after}
+use Rattle.stores.specs.Stores.{Contents}
 use Rattle.slots.specs.Words.{unsound}
 use Rattle.slots.specs.Ghost.{Finger, occ_list, none, tree_of, rows, levels, Calm}
 use Rattle.slots.specs.declared.records.Unsound.{Unsound}
-use Rattle.slots.specs.declared.records.Link.{Link}
+use Rattle.slots.specs.Words.{Link}
 use Rattle.slots.specs.declared.records.Tree.{Tree}
 use Rattle.slots.specs.declared.records.Digit.{Digit}
 use Rattle.slots.specs.declared.records.Digit.TheVariants.{One, Two, Three, Four}
@@ -36,11 +37,11 @@ pub record TextMade {A : Type 0} (am : List ℕ → A) (B : List ℕ) (rs rs' : 
   pub few : length js ≤ nodes * levels t' + leaves
   pub fresh : (i : ℕ) → occ_list js i ≡ 0 → Calm (slice_index_or rs i none) (slice_index_or rs' i none)
 
-module _ {A S : Type 0} (am : List ℕ → A) (bytes : S → List ℕ) (capacity reads : S → ℕ) where
+module _ {A S : Type 0} (am : List ℕ → A) (contents : S → Contents) where
   pub record PutInto (s s' : S) (rs rs' : List (Record PieceRow (TextValue A))) (f f' : Link) (tr : Tree) (p : ℕ) (x : PieceRow) (v : TextValue A) (r : Result Tree Unsound) : Type 0 where
-    pub puts : (t : Finger PieceRow (TextValue A)) (fs : List ℕ) → Bounded bytes capacity s → AllGood (bytes s) (rows t) → Laid (text_mean am (bytes s)) rs f tr t fs
-        → Good (bytes s) x → v ≡ text_mean am (bytes s) (x ∷ []) → length (before p (map piece_of (rows t)) ++ (piece_of x ∷ after p (map piece_of (rows t)))) ≤ limit (length rs)
-        → TextMade am (bytes s) rs rs' f' r (before p (map piece_of (rows t)) ++ (piece_of x ∷ after p (map piece_of (rows t)))) 4 3
-    pub few_reads : (t : Finger PieceRow (TextValue A)) (fs : List ℕ) → Bounded bytes capacity s → AllGood (bytes s) (rows t) → Laid (text_mean am (bytes s)) rs f tr t fs → reads s' ≤ reads s + 256
-    pub same_bytes : bytes s' ≡ bytes s
-    pub same_capacity : capacity s' ≡ capacity s
+    pub puts : (t : Finger PieceRow (TextValue A)) (fs : List ℕ) → Bounded contents s → AllGood (contents s).bytes (rows t) → Laid (text_mean am (contents s).bytes) rs f tr t fs
+        → Good (contents s).bytes x → v ≡ text_mean am (contents s).bytes (x ∷ []) → length (before p (map piece_of (rows t)) ++ (piece_of x ∷ after p (map piece_of (rows t)))) ≤ limit (length rs)
+        → TextMade am (contents s).bytes rs rs' f' r (before p (map piece_of (rows t)) ++ (piece_of x ∷ after p (map piece_of (rows t)))) 4 3
+    pub few_reads : (t : Finger PieceRow (TextValue A)) (fs : List ℕ) → Bounded contents s → AllGood (contents s).bytes (rows t) → Laid (text_mean am (contents s).bytes) rs f tr t fs → (contents s').reads ≤ (contents s).reads + 256
+    pub same_bytes : (contents s').bytes ≡ (contents s).bytes
+    pub same_capacity : (contents s').capacity ≡ (contents s).capacity

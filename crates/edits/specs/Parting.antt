@@ -1,10 +1,11 @@
 -- What taking the text's tree apart at an offset promises.
 use Rattle.std.specs.Prelude.{◌≡◌, ℕ, ◌+◌, ◌≤◌, List, [], ◌∷◌, ◌++◌, map, length, Ok, Err, Option, Result, slice_index_or}
 use Rattle.plain.specs.Pieces.{before, after}
+use Rattle.stores.specs.Stores.{Contents}
 use Rattle.slots.specs.Ghost.{Arm, Finger, occ_list, none, head_of, part_of, tree_of, rows_part, rows, size_part, levels, occ_part, occ, FitPart, Fit, Chain, Calm, Off}
 use Rattle.slots.specs.Holds.{Holds}
 use Rattle.slots.specs.declared.records.Unsound.{Unsound}
-use Rattle.slots.specs.declared.records.Link.{Link}
+use Rattle.slots.specs.Words.{Link}
 use Rattle.slots.specs.declared.records.Tree.{Tree}
 use Rattle.slots.specs.declared.records.Record.{Record}
 use Rattle.pieces.specs.Leaves.{Bounded}
@@ -13,7 +14,7 @@ use Rattle.pieces.specs.Sound.{TextValue, text_means, text_mean}
 use Rattle.pieces.specs.declared.rows.PieceRow.{PieceRow}
 use Rattle.edits.specs.declared.parting.Parts.{Parts}
 
-module _ {A S : Type 0} (am : List ℕ → A) (bytes : S → List ℕ) (capacity reads : S → ℕ) where
+module _ {A S : Type 0} (am : List ℕ → A) (contents : S → Contents) where
   -- The tree t became the trees l and q with the parts F and G between them.
   pub record Apart (B : List ℕ) (rs rs' : List (Record PieceRow (TextValue A))) (f' : Link) (p : ℕ) (r : Result Parts Unsound) (t : Finger PieceRow (TextValue A)) (fs : List ℕ) : Type 0 where
     pub l : Finger PieceRow (TextValue A)
@@ -42,7 +43,7 @@ module _ {A S : Type 0} (am : List ℕ → A) (bytes : S → List ℕ) (capacity
     pub fresh : (i : ℕ) → occ_list js i ≡ 0 → Calm (slice_index_or rs i none) (slice_index_or rs' i none)
 
   pub record PartedAt (s s' : S) (rs rs' : List (Record PieceRow (TextValue A))) (f f' : Link) (tr : Tree) (p : ℕ) (r : Result Parts Unsound) : Type 0 where
-    pub parts : (t : Finger PieceRow (TextValue A)) (fs : List ℕ) → Bounded bytes capacity s → AllGood (bytes s) (rows t) → Holds (λ _. 1) (text_means am) (bytes_of (bytes s)) rs f tr t fs → Apart (bytes s) rs rs' f' p r t fs
-    pub few_reads : (t : Finger PieceRow (TextValue A)) (fs : List ℕ) → Bounded bytes capacity s → AllGood (bytes s) (rows t) → Holds (λ _. 1) (text_means am) (bytes_of (bytes s)) rs f tr t fs → reads s' ≤ reads s + 256
-    pub same_bytes : bytes s' ≡ bytes s
-    pub same_capacity : capacity s' ≡ capacity s
+    pub parts : (t : Finger PieceRow (TextValue A)) (fs : List ℕ) → Bounded contents s → AllGood (contents s).bytes (rows t) → Holds (λ _. 1) (text_means am) (bytes_of (contents s).bytes) rs f tr t fs → Apart (contents s).bytes rs rs' f' p r t fs
+    pub few_reads : (t : Finger PieceRow (TextValue A)) (fs : List ℕ) → Bounded contents s → AllGood (contents s).bytes (rows t) → Holds (λ _. 1) (text_means am) (bytes_of (contents s).bytes) rs f tr t fs → (contents s').reads ≤ (contents s).reads + 256
+    pub same_bytes : (contents s').bytes ≡ (contents s).bytes
+    pub same_capacity : (contents s').capacity ≡ (contents s).capacity

@@ -24,19 +24,16 @@ pub fn size_of<A: Measure<Item = u8>>(
     Ok(all.left.left.bytes)
 }
 
-// 1 if the offset is strictly inside a piece, which an edit there halves; else 0.
+// Whether the offset is strictly inside a piece, which an edit there halves.
 pub fn halves<A: Measure<Item = u8>>(
     slots: &[TextRecord<A::Value>],
     text: Tree,
     p: u32,
-) -> Result<u32, Unsound>
+) -> Result<bool, Unsound>
     ensures { HalvesTold A.Measure.means slots.now text p result }
 {
     let edge = edge_at::<A>(slots, text, p)?;
-    match edge {
-        Some(edge) => { if edge.start < p { Ok(1) } else { Ok(0) } }
-        None => Ok(0),
-    }
+    Ok(edge.is_some_and(|edge| edge.start < p))
 }
 
 pub fn decide_insert(
@@ -48,10 +45,7 @@ pub fn decide_insert(
 ) -> Result<u32, TextFault>
     ensures { result ≡ result_of (first_no (insert_asked count at size all most)) all }
 {
-    if count < 1 {
-        return Err(TextFault::Length);
-    }
-    if count > 256 {
+    if !(1..=256).contains(&count) {
         return Err(TextFault::Length);
     }
     decide_paste(at, size, all, most)
@@ -100,10 +94,7 @@ pub fn decide_delete(
 ) -> Result<(), TextFault>
     ensures { result ≡ result_of (first_no (delete_asked from to size one pieces most)) tt }
 {
-    if from >= to {
-        return Err(TextFault::Offset);
-    }
-    if to > size {
+    if from >= to || to > size {
         return Err(TextFault::Offset);
     }
     if one && pieces >= most {
@@ -116,7 +107,7 @@ pub fn decide_delete(
 #[derive(Clone, Copy)]
 pub struct Spot {
     pub size: u32,
-    pub more: u32,
+    pub halves: bool,
 }
 
 pub fn spot_at<A: Measure<Item = u8>>(
@@ -126,24 +117,18 @@ pub fn spot_at<A: Measure<Item = u8>>(
 ) -> Result<Spot, TextFault>
     ensures { SpotTold A.Measure.means slots.now text p result }
 {
-    match size_of::<A>(slots, text) {
-        Ok(size) => match halves::<A>(slots, text, p) {
-            Ok(more) => Ok(Spot { size, more }),
-            Err(_) => Err(TextFault::Unsound),
-        },
-        Err(_) => Err(TextFault::Unsound),
-    }
+    Ok(Spot {
+        size: size_of::<A>(slots, text)?,
+        halves: halves::<A>(slots, text, p)?,
+    })
 }
 
 fn both_inside(first: Option<Edge>, second: Option<Edge>, from: u32) -> bool
     ensures { result ≡ both_inside_of first second from }
 {
-    match first {
-        Some(a) => match second {
-            Some(b) => a.start < from && a.start == b.start,
-            None => false,
-        },
-        None => false,
+    match (first, second) {
+        (Some(a), Some(b)) => a.start < from && a.start == b.start,
+        _ => false,
     }
 }
 
@@ -156,13 +141,9 @@ pub fn in_one_piece<A: Measure<Item = u8>>(
 ) -> Result<bool, TextFault>
     ensures { OneTold A.Measure.means slots.now text from to result }
 {
-    match edge_at::<A>(slots, text, from) {
-        Ok(first) => match edge_at::<A>(slots, text, to) {
-            Ok(second) => Ok(both_inside(first, second, from)),
-            Err(_) => Err(TextFault::Unsound),
-        },
-        Err(_) => Err(TextFault::Unsound),
-    }
+    let first = edge_at::<A>(slots, text, from)?;
+    let second = edge_at::<A>(slots, text, to)?;
+    Ok(both_inside(first, second, from))
 }
 
 // How many pieces there are after an insert of so many bytes.
@@ -176,7 +157,9 @@ pub fn insert_door<A: Measure<Item = u8>>(
     ensures { DoorTold A.Measure.means slots.now text pieces (insert_door_of count at (length slots.now)) result }
 {
     let spot = spot_at::<A>(slots, text, at)?;
-    let all = pieces.saturating_add(spot.more).saturating_add(1);
+    let all = pieces
+        .saturating_add(u32::from(spot.halves))
+        .saturating_add(1);
     decide_insert(count, at, spot.size, all, limit(slots.len()))
 }
 
@@ -189,7 +172,7 @@ pub fn paste_door<A: Measure<Item = u8>>(
     ensures { DoorTold A.Measure.means slots.now text pieces (paste_door_of at (length slots.now)) result }
 {
     let spot = spot_at::<A>(slots, text, at)?;
-    let all = pieces.saturating_add(spot.more);
+    let all = pieces.saturating_add(u32::from(spot.halves));
     decide_paste(at, spot.size, all, limit(slots.len()))
 }
 
@@ -205,8 +188,8 @@ pub fn cut_door<A: Measure<Item = u8>>(
     let first = spot_at::<A>(slots, text, from)?;
     let second = spot_at::<A>(slots, text, to)?;
     let all = pieces
-        .saturating_add(first.more)
-        .saturating_add(second.more);
+        .saturating_add(u32::from(first.halves))
+        .saturating_add(u32::from(second.halves));
     decide_cut(from, to, first.size, all, limit(slots.len()))
 }
 

@@ -1,4 +1,5 @@
 // Where an offset falls among the pieces.
+ghost use Rattle.std.specs.Prelude.{◌≡◌};
 ghost use Rattle.edits.specs.Edges.{EdgeFound};
 
 use measures::Measure;
@@ -6,11 +7,21 @@ use measures::probes::{OnLeft, PastByte};
 use pieces::head::{TextMeasure, TextRecord};
 use pieces::rows::PieceRow;
 use seek::search::search;
-use slots::arena::row_at;
+use slots::reading::row_at;
 use slots::records::{Tree, Unsound};
 
 // The probe that turns yes at the piece in which an offset lies.
 pub type AtByte = OnLeft<OnLeft<PastByte>>;
+
+pub fn at_byte(at: u32) -> AtByte
+    ensures { result.probe.probe.at ≡ at }
+{
+    OnLeft {
+        probe: OnLeft {
+            probe: PastByte { at },
+        },
+    }
+}
 
 // The piece in which an offset lies: where it starts, and its length.
 #[derive(Clone, Copy)]
@@ -28,20 +39,12 @@ pub fn edge_at<A: Measure<Item = u8>>(
     ensures { EdgeFound A.Measure.means slots.now text p result }
 {
     let mut place = TextMeasure::<A>::empty();
-    let probe = OnLeft {
-        probe: OnLeft {
-            probe: PastByte { at: p },
-        },
+    let found = search::<PieceRow, TextMeasure<A>, AtByte>(slots, text, &at_byte(p), &mut place)?;
+    let Some(i) = found else {
+        return Ok(None);
     };
-    let found = search::<PieceRow, TextMeasure<A>, AtByte>(slots, text, &probe, &mut place)?;
-    match found {
-        None => Ok(None),
-        Some(i) => {
-            let row = row_at(slots, i)?;
-            Ok(Some(Edge {
-                start: place.left.left.bytes,
-                length: row.length,
-            }))
-        }
-    }
+    Ok(Some(Edge {
+        start: place.left.left.bytes,
+        length: row_at(slots, i)?.length,
+    }))
 }

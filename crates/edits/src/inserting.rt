@@ -35,7 +35,7 @@ pub fn put_text<S: Store, A: Measure<Item = u8>>(
     row: PieceRow,
     value: <TextMeasure<A> as Measure>::Value,
 ) -> Result<Tree, Unsound>
-    ensures { PutInto A.Measure.means S.Store.bytes S.Store.capacity S.Store.reads store.old store.new slots.old slots.new free.old free.new text p row value result }
+    ensures { PutInto A.Measure.means S.Store.contents store.old store.new slots.old slots.new free.old free.new text p row value result }
 {
     let parts = part_at::<S, A>(slots, free, store, text, p)?;
     let i = put_leaf(slots, free, row, value)?;

@@ -27,7 +27,7 @@ pub fn part_at<S: Store, A: Measure<Item = u8>>(
     text: Tree,
     p: u32,
 ) -> Result<Parts, Unsound>
-    ensures { PartedAt A.Measure.means S.Store.bytes S.Store.capacity S.Store.reads store.old store.new slots.old slots.new free.old free.new text p result }
+    ensures { PartedAt A.Measure.means S.Store.contents store.old store.new slots.old slots.new free.old free.new text p result }
 {
     let mut place = TextMeasure::<A>::empty();
     let probe = OnLeft {

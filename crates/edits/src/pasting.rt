@@ -17,7 +17,7 @@ pub fn paste_text<S: Store, A: Measure<Item = u8>>(
     clip: Tree,
     p: u32,
 ) -> Result<Tree, Unsound>
-    ensures { PastedInto A.Measure.means S.Store.bytes S.Store.capacity S.Store.reads store.old store.new slots.old slots.new free.old free.new text clip p result }
+    ensures { PastedInto A.Measure.means S.Store.contents store.old store.new slots.old slots.new free.old free.new text clip p result }
 {
     let parts = part_at::<S, A>(slots, free, store, text, p)?;
     let first = concat::<PieceRow, TextMeasure<A>>(slots, free, parts.left, parts.front, clip)?;

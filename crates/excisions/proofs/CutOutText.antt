@@ -2,10 +2,11 @@
 use Rattle.std.proofs.Common.{◌≡◌, ℕ, ◌+◌, ◌-◌, ◌*◌, ◌<◌, ◌≤◌, ◌⊎◌, List, [], ◌++◌, map, length, Some, None, Ok, Err, Option, Result, sym, refl, ap, ◌∙◌, subst, ap₂, ⊎_elim, append_assoc, append-nil, arith, length-append}
 use Rattle.plain.specs.Machine.{limit}
 use Rattle.plain.specs.Pieces.{Piece, before, after, between}
+use Rattle.stores.specs.Stores.{Contents}
 use Rattle.slots.specs.Ghost.{Finger, same, named, occ_list, rows_part, rows, occ_part, occ, FitPart, Fit}
 use Rattle.slots.specs.Theorems.{total}
 use Rattle.slots.specs.declared.records.Unsound.{Unsound}
-use Rattle.slots.specs.declared.records.Link.{Link}
+use Rattle.slots.specs.Words.{Link}
 use Rattle.slots.specs.declared.records.Tree.{Tree}
 use Rattle.slots.specs.declared.records.Side.TheVariants.{Front, Back}
 use Rattle.slots.specs.declared.records.Record.{Record}
@@ -34,26 +35,26 @@ cut_same : {a a' c c' : Tree} → a ≡ a' → c ≡ c' → ◌≡◌ {A = Resul
 cut_same e f = cc
 
 module _ {A : Type 0} {am : List ℕ → A} {rs rs₁ : List (Record PieceRow (TextValue A))} {f f₁ : Link} {tr : Tree} {a : ℕ} {rf : Result (Option Spot) Unsound} (O : OpenedAt am rs rs₁ f f₁ tr a rf) (b : ℕ) where
-  pub cut_no_open : {S : Type 0} {bytes : S → List ℕ} {capacity reads : S → ℕ} {s : S} {e : Unsound} {r : Result CutText Unsound} → rf ≡ Err e → CutOut am bytes capacity reads s s rs rs₁ f f₁ tr a b r
-  cut_no_open {bytes = bytes} {s = s} bad = record {
-    cuts = λ t fs bd g L lt le few. ⊎_elim (λ u. absurd (ok_err u.1 bad)) (λ q. absurd (ok_err q.ok bad)) (O.opens (bytes s) t fs g (text_holds g L));
+  pub cut_no_open : {S : Type 0} {contents : S → Contents} {s : S} {e : Unsound} {r : Result CutText Unsound} → rf ≡ Err e → CutOut am contents s s rs rs₁ f f₁ tr a b r
+  cut_no_open {contents = contents} {s = s} bad = record {
+    cuts = λ t fs bd g L lt le few. ⊎_elim (λ u. absurd (ok_err u.1 bad)) (λ q. absurd (ok_err q.ok bad)) (O.opens (contents s).bytes t fs g (text_holds g L));
     few_reads = λ t fs bd g L lt le. omega arith;
     same_bytes = refl;
     same_capacity = refl;
   }
 
-  pub cut_none : {S : Type 0} {bytes : S → List ℕ} {capacity reads : S → ℕ} {s : S} {r : Result CutText Unsound} → rf ≡ Ok None → CutOut am bytes capacity reads s s rs rs₁ f f₁ tr a b r
-  cut_none {bytes = bytes} {s = s} got = record {
-    cuts = λ t fs bd g L lt le few. ⊎_elim (λ u. absurd (omega (arith, u.0))) (λ q. absurd (none_some (ok_same got q.ok))) (O.opens (bytes s) t fs g (text_holds g L));
+  pub cut_none : {S : Type 0} {contents : S → Contents} {s : S} {r : Result CutText Unsound} → rf ≡ Ok None → CutOut am contents s s rs rs₁ f f₁ tr a b r
+  cut_none {contents = contents} {s = s} got = record {
+    cuts = λ t fs bd g L lt le few. ⊎_elim (λ u. absurd (omega (arith, u.0))) (λ q. absurd (none_some (ok_same got q.ok))) (O.opens (contents s).bytes t fs g (text_holds g L));
     few_reads = λ t fs bd g L lt le. omega arith;
     same_bytes = refl;
     same_capacity = refl;
   }
 
-  module _ {h : Spot} (got : rf ≡ Ok (Some h)) {S : Type 0} {bytes : S → List ℕ} {capacity reads : S → ℕ} {s s' : S} {m : ℕ} {rs₂ : List (Record PieceRow (TextValue A))} {f₂ : Link} {rt : Result Taken Unsound}
-      (m-is : m ≡ b - a) (T : TakenFrom am bytes capacity reads s s' rs₁ rs₂ f₁ f₂ h m rt) where
+  module _ {h : Spot} (got : rf ≡ Ok (Some h)) {S : Type 0} {contents : S → Contents} {s s' : S} {m : ℕ} {rs₂ : List (Record PieceRow (TextValue A))} {f₂ : Link} {rt : Result Taken Unsound}
+      (m-is : m ≡ b - a) (T : TakenFrom am contents s s' rs₁ rs₂ f₁ f₂ h m rt) where
     abbrev mn : List PieceRow → TextValue A
-    mn = text_mean am (bytes s)
+    mn = text_mean am (contents s).bytes
 
     abbrev G₀ : Finger PieceRow (TextValue A) → List Piece
     G₀ t = before a (map piece_of (rows t)) ++ after b (map piece_of (rows t))
@@ -61,17 +62,17 @@ module _ {A : Type 0} {am : List ℕ → A} {rs rs₁ : List (Record PieceRow (T
     abbrev H₀ : Finger PieceRow (TextValue A) → List Piece
     H₀ t = between a b (map piece_of (rows t))
 
-    few_cut : (t : Finger PieceRow (TextValue A)) (fs : List ℕ) → Bounded bytes capacity s → AllGood (bytes s) (rows t) → Laid mn rs f tr t fs → a < b → b ≤ sizes (rows t) → reads s' ≤ reads s + 512
+    few_cut : (t : Finger PieceRow (TextValue A)) (fs : List ℕ) → Bounded contents s → AllGood (contents s).bytes (rows t) → Laid mn rs f tr t fs → a < b → b ≤ sizes (rows t) → (contents s').reads ≤ (contents s).reads + 512
     few_cut t fs bd g L lt le = let X = spotted t fs O got bd g L in T.few_reads X.v X.q X.fs' X.behind (omega (arith, m-is)) (spot_within X b m m-is lt le)
 
     -- the text in parts, of the clip and of what stays
     record Begun (t : Finger PieceRow (TextValue A)) (fs : List ℕ) : Type 0 where
-      pub X : Spotted am bytes capacity s rs rs₁ f₁ a h t fs
-      pub K : Took am bytes capacity reads (bytes s) rs₁ rs₂ f₂ h m rt X.q X.fs'
+      pub X : Spotted am contents s rs rs₁ f₁ a h t fs
+      pub K : Took am contents (contents s).bytes rs₁ rs₂ f₂ h m rt X.q X.fs'
       pub moved : Moved rs rs₂ f₂ (occ t) (λ j. (occ K.m j + occ_part K.D j) + (occ_part K.C j + (occ X.l j + (occ_part K.F j + (occ_part K.G j + occ K.q' j))))) fs K.fs' K.js
       pub fit_l : Fit mn rs₂ X.l 0
 
-    begun : (t : Finger PieceRow (TextValue A)) (fs : List ℕ) → Bounded bytes capacity s → AllGood (bytes s) (rows t) → Laid mn rs f tr t fs → a < b → b ≤ sizes (rows t) → Begun t fs
+    begun : (t : Finger PieceRow (TextValue A)) (fs : List ℕ) → Bounded contents s → AllGood (contents s).bytes (rows t) → Laid mn rs f tr t fs → a < b → b ≤ sizes (rows t) → Begun t fs
     begun t fs bd g L lt le =
         let X = spotted t fs O got bd g L in
         let K = T.takes X.v X.q X.fs' X.behind (omega (arith, m-is)) (spot_within X b m m-is lt le) in
@@ -82,7 +83,7 @@ module _ {A : Type 0} {am : List ℕ → A} {rs rs₁ : List (Record PieceRow (T
           fit_l = frame K.moved.frame mn X.l 0 (λ j. omega (arith, X.once j)) X.fit_l;
         }
 
-    pub cut_no_parts : {e : Unsound} {r : Result CutText Unsound} → rt ≡ Err e → CutOut am bytes capacity reads s s' rs rs₂ f f₂ tr a b r
+    pub cut_no_parts : {e : Unsound} {r : Result CutText Unsound} → rt ≡ Err e → CutOut am contents s s' rs rs₂ f f₂ tr a b r
     cut_no_parts bad = record {
       cuts = λ t fs bd g L lt le few. absurd (ok_err (begun t fs bd g L lt le).K.ok bad);
       few_reads = few_cut;
@@ -94,7 +95,7 @@ module _ {A : Type 0} {am : List ℕ → A} {rs rs₁ : List (Record PieceRow (T
     record Known (t : Finger PieceRow (TextValue A)) (fs : List ℕ) (W : Begun t fs) : Type 0 where
       pub pieces : map piece_of (rows W.X.l ++ (rows_part W.K.F ++ (rows_part W.K.G ++ rows W.K.q'))) ≡ G₀ t
       pub clipped : map piece_of (rows_part W.K.C ++ (rows W.K.m ++ rows_part W.K.D)) ≡ H₀ t
-      pub good : AllGood (bytes s) (rows W.X.l ++ (rows_part W.K.F ++ (rows_part W.K.G ++ rows W.K.q')))
+      pub good : AllGood (contents s).bytes (rows W.X.l ++ (rows_part W.K.F ++ (rows_part W.K.G ++ rows W.K.q')))
       pub count : length (rows W.X.l ++ (rows_part W.K.F ++ (rows_part W.K.G ++ rows W.K.q'))) + length (rows_part W.K.C ++ (rows W.K.m ++ rows_part W.K.D)) ≤ limit (length rs)
       pub clip_len : length (rows_part W.K.C ++ (rows W.K.m ++ rows_part W.K.D)) ≡ length (rows_part W.K.C) + (length (rows W.K.m) + length (rows_part W.K.D))
 
@@ -108,11 +109,11 @@ module _ {A : Type 0} {am : List ℕ → A} {rs rs₁ : List (Record PieceRow (T
         ap (map piece_of) (sym (append_assoc (rows X.l) (rows_part K.F) (rows_part K.G ++ rows K.q'))) ∙ map_append piece_of (rows X.l ++ rows_part K.F) (rows_part K.G ++ rows K.q')
         ∙ ap₂ (λ (x z : List Piece). x ++ z) (ap (λ (z : List PieceRow). map piece_of (rows X.l ++ z)) K.front_is ∙ sym (spot_before X)) (K.after_is ∙ sym (spot_after X b m m-is lt)) in
         let clipped : map piece_of zs ≡ H₀ t = K.between_is ∙ sym (spot_between X b m m-is lt) in
-        let good-f : AllGood (bytes s) (rows_part K.F) = subst (AllGood (bytes s)) (sym K.front_is) (front_good (bytes s) h.into h.row (omega (arith, X.behind.into)) X.behind.good.0) in
+        let good-f : AllGood (contents s).bytes (rows_part K.F) = subst (AllGood (contents s).bytes) (sym K.front_is) (front_good (contents s).bytes h.into h.row (omega (arith, X.behind.into)) X.behind.good.0) in
         record {
           pieces = pieces;
           clipped = clipped;
-          good = all_append (bytes s) (rows X.l) (rows_part K.F ++ (rows_part K.G ++ rows K.q')) X.good_l (all_append (bytes s) (rows_part K.F) (rows_part K.G ++ rows K.q') good-f K.good_after);
+          good = all_append (contents s).bytes (rows X.l) (rows_part K.F ++ (rows_part K.G ++ rows K.q')) X.good_l (all_append (contents s).bytes (rows_part K.F) (rows_part K.G ++ rows K.q') good-f K.good_after);
           count = omega (arith, few, length_map piece_of xs, ap length pieces, length_map piece_of zs, ap length clipped);
           clip_len = omega (arith, length-append (rows_part K.C) (rows K.m ++ rows_part K.D), length-append (rows K.m) (rows_part K.D));
         }
@@ -122,7 +123,7 @@ module _ {A : Type 0} {am : List ℕ → A} {rs rs₁ : List (Record PieceRow (T
       record Longer (t : Finger PieceRow (TextValue A)) (fs : List ℕ) : Type 0 where
         pub W : Begun t fs
         pub N : Known t fs W
-        pub ext : Extension (λ _. 1) (text_means am) (bytes_of (bytes s)) rs₂ rs₃ f₃ Back r₁ W.K.m W.K.D W.K.fs'
+        pub ext : Extension (λ _. 1) (text_means am) (bytes_of (contents s).bytes) rs₂ rs₃ f₃ Back r₁ W.K.m W.K.D W.K.fs'
         pub moved : Moved rs rs₃ f₃ (occ t) (λ j. (occ ext.made.t' j + occ_part W.K.C j) + (occ W.X.l j + (occ_part W.K.F j + (occ_part W.K.G j + occ W.K.q' j)))) fs ext.made.fs' (W.K.js ++ ext.made.js)
         pub fit_c : FitPart mn rs₃ W.K.C 0
         pub fit_l : Fit mn rs₃ W.X.l 0
@@ -130,7 +131,7 @@ module _ {A : Type 0} {am : List ℕ → A} {rs rs₁ : List (Record PieceRow (T
         pub fit_g : FitPart mn rs₃ W.K.G 0
         pub fit_q : Fit mn rs₃ W.K.q' 0
 
-      longer : (t : Finger PieceRow (TextValue A)) (fs : List ℕ) → Bounded bytes capacity s → AllGood (bytes s) (rows t) → Laid mn rs f tr t fs → a < b → b ≤ sizes (rows t) → length (G₀ t) + length (H₀ t) ≤ limit (length rs) → Longer t fs
+      longer : (t : Finger PieceRow (TextValue A)) (fs : List ℕ) → Bounded contents s → AllGood (contents s).bytes (rows t) → Laid mn rs f tr t fs → a < b → b ≤ sizes (rows t) → length (G₀ t) + length (H₀ t) ≤ limit (length rs) → Longer t fs
       longer t fs bd g L lt le few =
           let W = begun t fs bd g L lt le in
           let N = known t fs W lt few in
@@ -153,10 +154,10 @@ module _ {A : Type 0} {am : List ℕ → A} {rs rs₁ : List (Record PieceRow (T
             N.clip_len,
           ) in
           let free = supply (length rs) (2 * (length xs + length zs)) (λ j. (occ K.m j + occ_part K.D j) + (occ_part K.C j + (occ X.l j + (occ_part K.F j + (occ_part K.G j + occ K.q' j))))) K.fs' (λ j. W.moved.kept j ∙ L.once j) used in
-          let good : AllGood (bytes s) (rows K.m ++ (rows_part K.D ++ [])) = subst (λ (z : List PieceRow). AllGood (bytes s) (rows K.m ++ z)) (sym (append-nil (rows_part K.D))) (all_right (bytes s) (rows_part K.C) (rows K.m ++ rows_part K.D) K.good_between) in
+          let good : AllGood (contents s).bytes (rows K.m ++ (rows_part K.D ++ [])) = subst (λ (z : List PieceRow). AllGood (contents s).bytes (rows K.m ++ z)) (sym (append-nil (rows_part K.D))) (all_right (contents s).bytes (rows_part K.C) (rows K.m ++ rows_part K.D) K.good_between) in
           let len : length (rows K.m ++ (rows_part K.D ++ [])) ≡ length (rows K.m) + length (rows_part K.D) = omega (arith, length-append (rows K.m) (rows_part K.D ++ []), length-append (rows_part K.D) []) in
           let small : length (rows K.m ++ (rows_part K.D ++ [])) ≤ 4100 = few_most (length (rows K.m ++ (rows_part K.D ++ []))) (length rs) (omega (arith, N.count, N.clip_len)) L.most in
-          let ext : Extension (λ _. 1) (text_means am) (bytes_of (bytes s)) rs₂ rs₃ f₃ Back r₁ K.m K.D K.fs' = E₁.extends (bytes_of (bytes s)) K.m K.D K.fs' (record {
+          let ext : Extension (λ _. 1) (text_means am) (bytes_of (contents s).bytes) rs₂ rs₃ f₃ Back r₁ K.m K.D K.fs' = E₁.extends (bytes_of (contents s).bytes) K.m K.D K.fs' (record {
             left = ap (λ (z : Taken). z.middle) y-is;
             between = ap (λ (z : Taken). z.last) y-is;
             right = refl;
@@ -166,7 +167,7 @@ module _ {A : Type 0} {am : List ℕ → A} {rs rs₁ : List (Record PieceRow (T
             fit_r = tt;
             chain = K.moved.chain;
             once = λ j. omega (arith, once j);
-            light = light (bytes s) (rows K.m ++ (rows_part K.D ++ [])) good small;
+            light = light (contents s).bytes (rows K.m ++ (rows_part K.D ++ [])) good small;
             small = small;
             long = omega (arith, N.count, L.least);
           }) in
@@ -184,7 +185,7 @@ module _ {A : Type 0} {am : List ℕ → A} {rs rs₁ : List (Record PieceRow (T
             fit_q = frame step.frame mn K.q' 0 (λ j. omega (arith, once j)) K.fit_q;
           }
 
-      pub cut_no_last : {e : Unsound} {r : Result CutText Unsound} → r₁ ≡ Err e → CutOut am bytes capacity reads s s' rs rs₃ f f₃ tr a b r
+      pub cut_no_last : {e : Unsound} {r : Result CutText Unsound} → r₁ ≡ Err e → CutOut am contents s s' rs rs₃ f f₃ tr a b r
       cut_no_last bad = record {
         cuts = λ t fs bd g L lt le few. absurd (ok_err (longer t fs bd g L lt le few).ext.made.ok bad);
         few_reads = few_cut;
@@ -196,7 +197,7 @@ module _ {A : Type 0} {am : List ℕ → A} {rs rs₁ : List (Record PieceRow (T
         -- the clip's tree is whole
         record Clip (t : Finger PieceRow (TextValue A)) (fs : List ℕ) : Type 0 where
           pub V : Longer t fs
-          pub ext : Extension (λ _. 1) (text_means am) (bytes_of (bytes s)) rs₃ rs₄ f₄ Front r₂ V.ext.made.t' V.W.K.C V.ext.made.fs'
+          pub ext : Extension (λ _. 1) (text_means am) (bytes_of (contents s).bytes) rs₃ rs₄ f₄ Front r₂ V.ext.made.t' V.W.K.C V.ext.made.fs'
           pub text : rows ext.made.t' ≡ rows_part V.W.K.C ++ (rows V.W.K.m ++ rows_part V.W.K.D)
           pub moved : Moved rs rs₄ f₄ (occ t) (λ j. (occ V.W.X.l j + (occ_part V.W.K.F j + (occ_part V.W.K.G j + occ V.W.K.q' j))) + occ ext.made.t' j) fs ext.made.fs' ((V.W.K.js ++ V.ext.made.js) ++ ext.made.js)
           pub fit_l : Fit mn rs₄ V.W.X.l 0
@@ -204,7 +205,7 @@ module _ {A : Type 0} {am : List ℕ → A} {rs rs₁ : List (Record PieceRow (T
           pub fit_g : FitPart mn rs₄ V.W.K.G 0
           pub fit_q : Fit mn rs₄ V.W.K.q' 0
 
-        clip_of : (t : Finger PieceRow (TextValue A)) (fs : List ℕ) → Bounded bytes capacity s → AllGood (bytes s) (rows t) → Laid mn rs f tr t fs → a < b → b ≤ sizes (rows t) → length (G₀ t) + length (H₀ t) ≤ limit (length rs) → Clip t fs
+        clip_of : (t : Finger PieceRow (TextValue A)) (fs : List ℕ) → Bounded contents s → AllGood (contents s).bytes (rows t) → Laid mn rs f tr t fs → a < b → b ≤ sizes (rows t) → length (G₀ t) + length (H₀ t) ≤ limit (length rs) → Clip t fs
         clip_of t fs bd g L lt le few =
             let V = longer t fs bd g L lt le few in
             let X = V.W.X in
@@ -228,9 +229,9 @@ module _ {A : Type 0} {am : List ℕ → A} {rs rs₁ : List (Record PieceRow (T
               N.clip_len,
             ) in
             let free = supply (length rs) (2 * (length xs + length zs)) (λ j. (occ Y.t' j + occ_part K.C j) + (occ X.l j + (occ_part K.F j + (occ_part K.G j + occ K.q' j)))) Y.fs' (λ j. V.moved.kept j ∙ L.once j) used in
-            let good : AllGood (bytes s) (rows_part K.C ++ rows Y.t') = subst (AllGood (bytes s)) (sym same_rows) K.good_between in
+            let good : AllGood (contents s).bytes (rows_part K.C ++ rows Y.t') = subst (AllGood (contents s).bytes) (sym same_rows) K.good_between in
             let small : length (rows_part K.C ++ rows Y.t') ≤ 4100 = few_most (length (rows_part K.C ++ rows Y.t')) (length rs) (omega (arith, N.count, ap length same_rows)) L.most in
-            let ext : Extension (λ _. 1) (text_means am) (bytes_of (bytes s)) rs₃ rs₄ f₄ Front r₂ Y.t' K.C Y.fs' = E₂.extends (bytes_of (bytes s)) Y.t' K.C Y.fs' (record {
+            let ext : Extension (λ _. 1) (text_means am) (bytes_of (contents s).bytes) rs₃ rs₄ f₄ Front r₂ Y.t' K.C Y.fs' = E₂.extends (bytes_of (contents s).bytes) Y.t' K.C Y.fs' (record {
               left = refl;
               between = ap (λ (z : Taken). z.first) y-is;
               right = ok_same Y.ok got-u;
@@ -240,7 +241,7 @@ module _ {A : Type 0} {am : List ℕ → A} {rs rs₁ : List (Record PieceRow (T
               fit_r = Y.fit;
               chain = Y.chain;
               once = λ j. omega (arith, once j);
-              light = light (bytes s) (rows_part K.C ++ rows Y.t') good small;
+              light = light (contents s).bytes (rows_part K.C ++ rows Y.t') good small;
               small = small;
               long = omega (arith, N.count, L.least);
             }) in
@@ -257,7 +258,7 @@ module _ {A : Type 0} {am : List ℕ → A} {rs rs₁ : List (Record PieceRow (T
               fit_q = frame step.frame mn K.q' 0 (λ j. omega (arith, once j)) V.fit_q;
             }
 
-        pub cut_no_clip : {e : Unsound} {r : Result CutText Unsound} → r₂ ≡ Err e → CutOut am bytes capacity reads s s' rs rs₄ f f₄ tr a b r
+        pub cut_no_clip : {e : Unsound} {r : Result CutText Unsound} → r₂ ≡ Err e → CutOut am contents s s' rs rs₄ f f₄ tr a b r
         cut_no_clip bad = record {
           cuts = λ t fs bd g L lt le few. absurd (ok_err (clip_of t fs bd g L lt le few).ext.made.ok bad);
           few_reads = few_cut;
@@ -266,7 +267,7 @@ module _ {A : Type 0} {am : List ℕ → A} {rs rs₁ : List (Record PieceRow (T
         }
 
         module _ {k : Tree} (got-k : r₂ ≡ Ok k) {rs₅ : List (Record PieceRow (TextValue A))} {f₅ : Link} {rc : Result Tree Unsound} (Z : Closed am rs₄ rs₅ f₄ f₅ h.left y.front y.back y.right rc) where
-          closing : (t : Finger PieceRow (TextValue A)) (fs : List ℕ) → Laid mn rs f tr t fs → (U : Clip t fs) → Closing am (bytes s) rs₄ rs₅ f₅ rc U.V.W.X.l U.V.W.K.F U.V.W.K.G U.V.W.K.q' U.ext.made.fs'
+          closing : (t : Finger PieceRow (TextValue A)) (fs : List ℕ) → Laid mn rs f tr t fs → (U : Clip t fs) → Closing am (contents s).bytes rs₄ rs₅ f₅ rc U.V.W.X.l U.V.W.K.F U.V.W.K.G U.V.W.K.q' U.ext.made.fs'
           closing t fs L U =
               let X = U.V.W.X in
               let K = U.V.W.K in
@@ -281,7 +282,7 @@ module _ {A : Type 0} {am : List ℕ → A} {rs rs₁ : List (Record PieceRow (T
                 sides_count (length rs) X.l K.F K.G K.q',
               ) in
               let free = supply (length rs) (2 * (length xs + length (rows Y.t'))) (λ j. (occ X.l j + (occ_part K.F j + (occ_part K.G j + occ K.q' j))) + occ Y.t' j) Y.fs' (λ j. U.moved.kept j ∙ L.once j) used in
-              Z.closes (bytes s) X.l K.F K.G K.q' Y.fs' (record {
+              Z.closes (contents s).bytes X.l K.F K.G K.q' Y.fs' (record {
                 left = X.left_is;
                 front = ap (λ (z : Taken). z.front) y-is;
                 back = ap (λ (z : Taken). z.back) y-is;
@@ -300,7 +301,7 @@ module _ {A : Type 0} {am : List ℕ → A} {rs rs₁ : List (Record PieceRow (T
                 long = omega (arith, N.count, ap length U.text, L.least);
               })
 
-          pub cut_no_text : {e : Unsound} {r : Result CutText Unsound} → rc ≡ Err e → CutOut am bytes capacity reads s s' rs rs₅ f f₅ tr a b r
+          pub cut_no_text : {e : Unsound} {r : Result CutText Unsound} → rc ≡ Err e → CutOut am contents s s' rs rs₅ f f₅ tr a b r
           cut_no_text bad = record {
             cuts = λ t fs bd g L lt le few. absurd (ok_err (closing t fs L (clip_of t fs bd g L lt le few)).ok bad);
             few_reads = few_cut;
@@ -308,7 +309,7 @@ module _ {A : Type 0} {am : List ℕ → A} {rs rs₁ : List (Record PieceRow (T
             same_capacity = T.same_capacity;
           }
 
-          pub cut_made : {x : Tree} → rc ≡ Ok x → CutOut am bytes capacity reads s s' rs rs₅ f f₅ tr a b (Ok (record { text = x; clip = k }))
+          pub cut_made : {x : Tree} → rc ≡ Ok x → CutOut am contents s s' rs rs₅ f f₅ tr a b (Ok (record { text = x; clip = k }))
           cut_made {x} got-x = record {
             cuts = λ t fs bd g L lt le few. made t fs L (clip_of t fs bd g L lt le few);
             few_reads = few_cut;
@@ -316,7 +317,7 @@ module _ {A : Type 0} {am : List ℕ → A} {rs rs₁ : List (Record PieceRow (T
             same_capacity = T.same_capacity;
           }
             where
-              made : (t : Finger PieceRow (TextValue A)) (fs : List ℕ) → Laid mn rs f tr t fs → Clip t fs → TwoMade am (bytes s) rs rs₅ f₅ (Ok (record { text = x; clip = k })) (G₀ t) (H₀ t)
+              made : (t : Finger PieceRow (TextValue A)) (fs : List ℕ) → Laid mn rs f tr t fs → Clip t fs → TwoMade am (contents s).bytes rs rs₅ f₅ (Ok (record { text = x; clip = k })) (G₀ t) (H₀ t)
               made t fs L U =
                   let K = U.V.W.K in
                   let N = U.V.N in
@@ -347,8 +348,8 @@ module _ {A : Type 0} {am : List ℕ → A} {rs rs₁ : List (Record PieceRow (T
                     len = len;
                     pieces = ap (map piece_of) Q.text ∙ N.pieces;
                     clipped = ap (map piece_of) U.text ∙ N.clipped;
-                    good = subst (AllGood (bytes s)) (sym Q.text) N.good;
-                    good_clip = subst (AllGood (bytes s)) (sym U.text) K.good_between;
+                    good = subst (AllGood (contents s).bytes) (sym Q.text) N.good;
+                    good_clip = subst (AllGood (contents s).bytes) (sym U.text) K.good_between;
                     few = omega (
                       arith,
                       K.few,

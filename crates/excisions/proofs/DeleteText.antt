@@ -1,10 +1,11 @@
 -- The paths of deleting a part of the text.
-use Rattle.std.proofs.Common.{◌≡◌, ℕ, suc, ◌+◌, ◌-◌, ◌*◌, ◌<◌, ◌≤◌, min, ◌⊎◌, List, ◌∷◌, ◌++◌, map, length, Some, None, Ok, Err, Option, Result, sym, refl, ap, ◌∙◌, subst, ap₂, ⊎_elim, append_assoc, arith, length-append}
+use Rattle.std.proofs.Common.{◌≡◌, ℕ, suc, ◌+◌, ◌-◌, ◌*◌, ◌<◌, ◌≤◌, min, List, ◌∷◌, ◌++◌, map, length, Some, None, Ok, Err, Option, Result, sym, refl, ap, ◌∙◌, subst, ap₂, ⊎_elim, append_assoc, arith, length-append}
 use Rattle.plain.specs.Machine.{limit}
 use Rattle.plain.specs.Pieces.{Piece, before, after}
+use Rattle.stores.specs.Stores.{Contents}
 use Rattle.slots.specs.Ghost.{Arm, Finger, named, part_of, rows_part, rows, size_part, occ_part, occ, FitPart}
 use Rattle.slots.specs.declared.records.Unsound.{Unsound}
-use Rattle.slots.specs.declared.records.Link.{Link}
+use Rattle.slots.specs.Words.{Link}
 use Rattle.slots.specs.declared.records.Tree.{Tree}
 use Rattle.slots.specs.declared.records.Record.{Record}
 use Rattle.slots.proofs.Frames.{frame}
@@ -32,41 +33,41 @@ one_leaf : {R V : Type 0} (mn : List R → V) (rs : List (Record R V)) (F : Opti
 one_leaf mn rs F fit small = at_most_one mn rs (λ F. length (rows_part F) ≡ one_part_of (part_of F)) refl (λ a y u. refl) F fit small
 
 module _ {A : Type 0} {am : List ℕ → A} {rs rs₁ : List (Record PieceRow (TextValue A))} {f f₁ : Link} {tr : Tree} {a : ℕ} {rf : Result (Option Spot) Unsound} (O : OpenedAt am rs rs₁ f f₁ tr a rf) (n b : ℕ) where
-  pub delete_no_open : {S : Type 0} {bytes : S → List ℕ} {capacity reads : S → ℕ} {s : S} {e : Unsound} {r : Result Deleted Unsound} → rf ≡ Err e → DeletedFrom am bytes capacity reads s s rs rs₁ f f₁ tr n a b r
-  delete_no_open {bytes = bytes} {s = s} bad = record {
-    deletes = λ t fs bd g L en lt le few. ⊎_elim (λ u. absurd (ok_err u.1 bad)) (λ q. absurd (ok_err q.ok bad)) (O.opens (bytes s) t fs g (text_holds g L));
+  pub delete_no_open : {S : Type 0} {contents : S → Contents} {s : S} {e : Unsound} {r : Result Deleted Unsound} → rf ≡ Err e → DeletedFrom am contents s s rs rs₁ f f₁ tr n a b r
+  delete_no_open {contents = contents} {s = s} bad = record {
+    deletes = λ t fs bd g L en lt le few. ⊎_elim (λ u. absurd (ok_err u.1 bad)) (λ q. absurd (ok_err q.ok bad)) (O.opens (contents s).bytes t fs g (text_holds g L));
     few_reads = λ t fs bd g L lt le. omega arith;
     same_bytes = refl;
     same_capacity = refl;
   }
 
-  pub delete_none : {S : Type 0} {bytes : S → List ℕ} {capacity reads : S → ℕ} {s : S} {r : Result Deleted Unsound} → rf ≡ Ok None → DeletedFrom am bytes capacity reads s s rs rs₁ f f₁ tr n a b r
-  delete_none {bytes = bytes} {s = s} got = record {
-    deletes = λ t fs bd g L en lt le few. ⊎_elim (λ u. absurd (omega (arith, u.0))) (λ q. absurd (none_some (ok_same got q.ok))) (O.opens (bytes s) t fs g (text_holds g L));
+  pub delete_none : {S : Type 0} {contents : S → Contents} {s : S} {r : Result Deleted Unsound} → rf ≡ Ok None → DeletedFrom am contents s s rs rs₁ f f₁ tr n a b r
+  delete_none {contents = contents} {s = s} got = record {
+    deletes = λ t fs bd g L en lt le few. ⊎_elim (λ u. absurd (omega (arith, u.0))) (λ q. absurd (none_some (ok_same got q.ok))) (O.opens (contents s).bytes t fs g (text_holds g L));
     few_reads = λ t fs bd g L lt le. omega arith;
     same_bytes = refl;
     same_capacity = refl;
   }
 
-  module _ {h : Spot} (got : rf ≡ Ok (Some h)) {S : Type 0} {bytes : S → List ℕ} {capacity reads : S → ℕ} {s s' : S} {m : ℕ} {rs₂ : List (Record PieceRow (TextValue A))} {f₂ : Link} {rd : Result Dropped Unsound}
-      (m-is : m ≡ b - a) (D : DroppedFrom am bytes capacity reads s s' rs₁ rs₂ f₁ f₂ h m rd) where
+  module _ {h : Spot} (got : rf ≡ Ok (Some h)) {S : Type 0} {contents : S → Contents} {s s' : S} {m : ℕ} {rs₂ : List (Record PieceRow (TextValue A))} {f₂ : Link} {rd : Result Dropped Unsound}
+      (m-is : m ≡ b - a) (D : DroppedFrom am contents s s' rs₁ rs₂ f₁ f₂ h m rd) where
     abbrev mn : List PieceRow → TextValue A
-    mn = text_mean am (bytes s)
+    mn = text_mean am (contents s).bytes
 
     abbrev G₀ : Finger PieceRow (TextValue A) → List Piece
     G₀ t = before a (map piece_of (rows t)) ++ after b (map piece_of (rows t))
 
-    found : (t : Finger PieceRow (TextValue A)) (fs : List ℕ) → Bounded bytes capacity s → AllGood (bytes s) (rows t) → Laid mn rs f tr t fs → Spotted am bytes capacity s rs rs₁ f₁ a h t fs
+    found : (t : Finger PieceRow (TextValue A)) (fs : List ℕ) → Bounded contents s → AllGood (contents s).bytes (rows t) → Laid mn rs f tr t fs → Spotted am contents s rs rs₁ f₁ a h t fs
     found t fs bd g L = spotted t fs O got bd g L
 
-    few_deleted : (t : Finger PieceRow (TextValue A)) (fs : List ℕ) → Bounded bytes capacity s → AllGood (bytes s) (rows t) → Laid mn rs f tr t fs → a < b → b ≤ sizes (rows t) → reads s' ≤ reads s + 512
+    few_deleted : (t : Finger PieceRow (TextValue A)) (fs : List ℕ) → Bounded contents s → AllGood (contents s).bytes (rows t) → Laid mn rs f tr t fs → a < b → b ≤ sizes (rows t) → (contents s').reads ≤ (contents s).reads + 512
     few_deleted t fs bd g L lt le = let X = found t fs bd g L in D.few_reads X.v X.q X.fs' X.behind (spot_within X b m m-is lt le)
 
-    skipped : (t : Finger PieceRow (TextValue A)) (fs : List ℕ) (bd : Bounded bytes capacity s) (g : AllGood (bytes s) (rows t)) (L : Laid mn rs f tr t fs) → a < b → b ≤ sizes (rows t)
-        → Skipped am bytes capacity reads (bytes s) rs₁ rs₂ f₂ h m rd (found t fs bd g L).q (found t fs bd g L).fs'
+    skipped : (t : Finger PieceRow (TextValue A)) (fs : List ℕ) (bd : Bounded contents s) (g : AllGood (contents s).bytes (rows t)) (L : Laid mn rs f tr t fs) → a < b → b ≤ sizes (rows t)
+        → Skipped am contents (contents s).bytes rs₁ rs₂ f₂ h m rd (found t fs bd g L).q (found t fs bd g L).fs'
     skipped t fs bd g L lt le = let X = found t fs bd g L in D.drops X.v X.q X.fs' X.behind (spot_within X b m m-is lt le)
 
-    pub delete_no_parts : {e : Unsound} {r : Result Deleted Unsound} → rd ≡ Err e → DeletedFrom am bytes capacity reads s s' rs rs₂ f f₂ tr n a b r
+    pub delete_no_parts : {e : Unsound} {r : Result Deleted Unsound} → rd ≡ Err e → DeletedFrom am contents s s' rs rs₂ f f₂ tr n a b r
     delete_no_parts bad = record {
       deletes = λ t fs bd g L en lt le few. absurd (ok_err (skipped t fs bd g L lt le).ok bad);
       few_reads = few_deleted;
@@ -78,12 +79,12 @@ module _ {A : Type 0} {am : List ℕ → A} {rs rs₁ : List (Record PieceRow (T
       -- what is left, as rows and as one tree
       record Shut (t : Finger PieceRow (TextValue A)) (fs : List ℕ) (l : Finger PieceRow (TextValue A)) (q : Finger PieceRow (TextValue A)) (F G : Option (Arm PieceRow (TextValue A))) (q' : Finger PieceRow (TextValue A)) (fs₂ js : List ℕ) : Type 0 where
         pub pieces : map piece_of (rows l ++ (rows_part F ++ (rows_part G ++ rows q'))) ≡ G₀ t
-        pub good : AllGood (bytes s) (rows l ++ (rows_part F ++ (rows_part G ++ rows q')))
+        pub good : AllGood (contents s).bytes (rows l ++ (rows_part F ++ (rows_part G ++ rows q')))
         pub count : length (rows l ++ (rows_part F ++ (rows_part G ++ rows q'))) ≤ limit (length rs)
         pub moved : Moved rs rs₂ f₂ (occ t) (λ j. occ l j + (occ_part F j + (occ_part G j + occ q' j))) fs fs₂ js
-        pub closing : Closing am (bytes s) rs₂ rs₃ f₃ rc l F G q' fs₂
+        pub closing : Closing am (contents s).bytes rs₂ rs₃ f₃ rc l F G q' fs₂
 
-      shut : (t : Finger PieceRow (TextValue A)) (fs : List ℕ) (bd : Bounded bytes capacity s) (g : AllGood (bytes s) (rows t)) (L : Laid mn rs f tr t fs) (lt : a < b) (le : b ≤ sizes (rows t)) → length (G₀ t) ≤ limit (length rs)
+      shut : (t : Finger PieceRow (TextValue A)) (fs : List ℕ) (bd : Bounded contents s) (g : AllGood (contents s).bytes (rows t)) (L : Laid mn rs f tr t fs) (lt : a < b) (le : b ≤ sizes (rows t)) → length (G₀ t) ≤ limit (length rs)
           → (let X = found t fs bd g L in let K = skipped t fs bd g L lt le in Shut t fs X.l X.q K.F K.G K.q' K.fs' K.js)
       shut t fs bd g L lt le few =
           let X = found t fs bd g L in
@@ -97,8 +98,8 @@ module _ {A : Type 0} {am : List ℕ → A} {rs rs₁ : List (Record PieceRow (T
           let pieces : map piece_of xs ≡ G₀ t =
           ap (map piece_of) apart ∙ map_append piece_of (rows l ++ rows_part F) (rows_part G ++ rows q')
           ∙ ap₂ (λ (x z : List Piece). x ++ z) (ap (λ (z : List PieceRow). map piece_of (rows l ++ z)) K.front_is ∙ sym (spot_before X)) (K.after_is ∙ sym (spot_after X b m m-is lt)) in
-          let good-f : AllGood (bytes s) (rows_part F) = subst (AllGood (bytes s)) (sym K.front_is) (front_good (bytes s) h.into h.row (omega (arith, X.behind.into)) X.behind.good.0) in
-          let good : AllGood (bytes s) xs = all_append (bytes s) (rows l) (rows_part F ++ (rows_part G ++ rows q')) X.good_l (all_append (bytes s) (rows_part F) (rows_part G ++ rows q') good-f K.good_after) in
+          let good-f : AllGood (contents s).bytes (rows_part F) = subst (AllGood (contents s).bytes) (sym K.front_is) (front_good (contents s).bytes h.into h.row (omega (arith, X.behind.into)) X.behind.good.0) in
+          let good : AllGood (contents s).bytes xs = all_append (contents s).bytes (rows l) (rows_part F ++ (rows_part G ++ rows q')) X.good_l (all_append (contents s).bytes (rows_part F) (rows_part G ++ rows q') good-f K.good_after) in
           let count : length xs ≤ limit (length rs) = omega (arith, few, length_map piece_of xs, ap length pieces) in
           let moved : Moved rs rs₂ f₂ (occ t) (λ j. occ l j + (occ_part F j + (occ_part G j + occ q' j))) fs K.fs' K.js =
           moved_then (occ l) (λ j. occ l j + (occ_part F j + (occ_part G j + occ q' j))) X.moved (λ j. omega arith) K.moved (λ j. omega arith) in
@@ -109,7 +110,7 @@ module _ {A : Type 0} {am : List ℕ → A} {rs rs₁ : List (Record PieceRow (T
             good = good;
             count = count;
             moved = moved;
-            closing = Z.closes (bytes s) l F G q' K.fs' (record {
+            closing = Z.closes (contents s).bytes l F G q' K.fs' (record {
               left = X.left_is;
               front = ap (λ (z : Dropped). z.front) y-is;
               back = ap (λ (z : Dropped). z.rest.back) y-is;
@@ -129,7 +130,7 @@ module _ {A : Type 0} {am : List ℕ → A} {rs rs₁ : List (Record PieceRow (T
             });
           }
 
-      pub delete_no_tree : {e : Unsound} {r : Result Deleted Unsound} → rc ≡ Err e → DeletedFrom am bytes capacity reads s s' rs rs₃ f f₃ tr n a b r
+      pub delete_no_tree : {e : Unsound} {r : Result Deleted Unsound} → rc ≡ Err e → DeletedFrom am contents s s' rs rs₃ f f₃ tr n a b r
       delete_no_tree bad = record {
         deletes = λ t fs bd g L en lt le few. absurd (ok_err (shut t fs bd g L lt le few).closing.ok bad);
         few_reads = few_deleted;
@@ -138,7 +139,7 @@ module _ {A : Type 0} {am : List ℕ → A} {rs rs₁ : List (Record PieceRow (T
       }
 
       pub delete_made : {all : Tree} {kept one some two after : ℕ} → rc ≡ Ok all → kept ≡ n - y.rest.gone → one ≡ one_part_of y.front → some ≡ min (kept + one) 4294967295 → two ≡ one_part_of y.rest.back → after ≡ min (some + two) 4294967295
-          → DeletedFrom am bytes capacity reads s s' rs rs₃ f f₃ tr n a b (Ok (record { text = all; pieces = after }))
+          → DeletedFrom am contents s s' rs rs₃ f f₃ tr n a b (Ok (record { text = all; pieces = after }))
       delete_made {all} {kept} {one} {some} {two} {after} got-c kept-is one-is some_is two_is after_is = record {
         deletes = λ t fs bd g L en lt le few. made t fs bd g L en lt le few;
         few_reads = few_deleted;
@@ -149,8 +150,8 @@ module _ {A : Type 0} {am : List ℕ → A} {rs rs₁ : List (Record PieceRow (T
           deleted_same : {p p' : ℕ} → p ≡ p' → ◌≡◌ {A = Result Deleted Unsound} (Ok (record { text = all; pieces = p })) (Ok (record { text = all; pieces = p' }))
           deleted_same e = cc
 
-          made : (t : Finger PieceRow (TextValue A)) (fs : List ℕ) → Bounded bytes capacity s → AllGood (bytes s) (rows t) → Laid mn rs f tr t fs → n ≡ length (rows t) → a < b → b ≤ sizes (rows t) → length (G₀ t) ≤ limit (length rs)
-              → DeleteMade am (bytes s) rs rs₃ f₃ (Ok (record { text = all; pieces = after })) (G₀ t)
+          made : (t : Finger PieceRow (TextValue A)) (fs : List ℕ) → Bounded contents s → AllGood (contents s).bytes (rows t) → Laid mn rs f tr t fs → n ≡ length (rows t) → a < b → b ≤ sizes (rows t) → length (G₀ t) ≤ limit (length rs)
+              → DeleteMade am (contents s).bytes rs rs₃ f₃ (Ok (record { text = all; pieces = after })) (G₀ t)
           made t fs bd g L en lt le few =
               let X = found t fs bd g L in
               let K = skipped t fs bd g L lt le in
@@ -191,7 +192,7 @@ module _ {A : Type 0} {am : List ℕ → A} {rs rs₁ : List (Record PieceRow (T
                   };
                   len = len;
                   pieces = ap (map piece_of) Q.text ∙ W.pieces;
-                  good = subst (AllGood (bytes s)) (sym Q.text) W.good;
+                  good = subst (AllGood (contents s).bytes) (sym Q.text) W.good;
                   few = omega (arith, K.few, Q.few, length-append K.js Q.js);
                   fresh = last.fresh;
                 };

@@ -1,10 +1,11 @@
 -- The paths of dropping the first bytes of a tree.
-use Rattle.std.proofs.Common.{◌≡◌, ℕ, suc, ◌+◌, ◌-◌, ◌≤◌, min, ◌⊎◌, List, [], ◌∷◌, ◌++◌, map, length, Some, None, Ok, Err, Option, Result, sym, refl, ap, ◌∙◌, subst, ⊎_elim, arith, length-append}
+use Rattle.std.proofs.Common.{◌≡◌, ℕ, suc, ◌+◌, ◌≤◌, min, List, [], ◌∷◌, ◌++◌, map, length, Some, None, Ok, Err, Option, Result, sym, refl, ap, ◌∙◌, subst, ⊎_elim, arith, length-append}
 use Rattle.plain.specs.Pieces.{after}
+use Rattle.stores.specs.Stores.{Contents}
 use Rattle.slots.specs.Ghost.{Finger, nil, At, same, occ_list, tree_of, rows_part, rows, occ_part, occ, Fit, Chain}
 use Rattle.slots.specs.Holds.{Holds}
 use Rattle.slots.specs.declared.records.Unsound.{Unsound}
-use Rattle.slots.specs.declared.records.Link.{Link}
+use Rattle.slots.specs.Words.{Link}
 use Rattle.slots.specs.declared.records.Tree.{Tree}
 use Rattle.slots.specs.declared.records.Tree.TheVariants.{Empty}
 use Rattle.slots.specs.declared.records.Digit.{Digit}
@@ -12,7 +13,7 @@ use Rattle.slots.specs.declared.records.Record.{Record}
 use Rattle.slots.specs.declared.records.Record.TheVariants.{Leaf}
 use Rattle.slots.proofs.Frames.{frame, frame_part}
 use Rattle.slots.proofs.Shapes.{ok_err, ok_same}
-use Rattle.release_count.specs.Post.{Back, Released}
+use Rattle.release.specs.Post.{Back, Released}
 use Rattle.pieces.specs.Leaves.{Bounded, Cuttable, Cut, EndsKept}
 use Rattle.pieces.specs.Rows.{piece_of, bytes_of, AllGood, rest_of, sizes}
 use Rattle.pieces.specs.Sound.{TextValue, text_means, text_mean}
@@ -32,9 +33,9 @@ rest_same : {c d : Option Digit} {m n : Tree} {g : ℕ} → c ≡ d → m ≡ n 
 rest_same e f = cc
 
 module _ {A : Type 0} {am : List ℕ → A} {rs rs₁ : List (Record PieceRow (TextValue A))} {f f₁ : Link} {tr : Tree} {n : ℕ} {rf : Result (Option Spot) Unsound} (O : OpenedAt am rs rs₁ f f₁ tr n rf) where
-  pub drop_no_open : {S : Type 0} {bytes : S → List ℕ} {capacity reads : S → ℕ} {s : S} {e : Unsound} {r : Result Rest Unsound} → rf ≡ Err e → FrontDropped am bytes capacity reads s s rs rs₁ f f₁ tr n r
-  drop_no_open {bytes = bytes} {s = s} bad = record {
-    drops = λ t fs b g H. ⊎_elim (λ u. absurd (ok_err u.1 bad)) (λ q. absurd (ok_err q.ok bad)) (O.opens (bytes s) t fs g H);
+  pub drop_no_open : {S : Type 0} {contents : S → Contents} {s : S} {e : Unsound} {r : Result Rest Unsound} → rf ≡ Err e → FrontDropped am contents s s rs rs₁ f f₁ tr n r
+  drop_no_open {contents = contents} {s = s} bad = record {
+    drops = λ t fs b g H. ⊎_elim (λ u. absurd (ok_err u.1 bad)) (λ q. absurd (ok_err q.ok bad)) (O.opens (contents s).bytes t fs g H);
     few_reads = λ t fs b g H. omega arith;
     same_bytes = refl;
     same_capacity = refl;
@@ -57,18 +58,18 @@ module _ {A : Type 0} {am : List ℕ → A} {rs rs₁ : List (Record PieceRow (T
         })
         (λ q. absurd (none_some (ok_same got q.ok))) (O.opens B t fs g H)
 
-    pub drop_no_release : {S : Type 0} {bytes : S → List ℕ} {capacity reads : S → ℕ} {s : S} {e : Unsound} {r : Result Rest Unsound} → ra ≡ Err e → FrontDropped am bytes capacity reads s s rs rs₂ f f₂ tr n r
-    drop_no_release {bytes = bytes} {s = s} bad = record {
-      drops = λ t fs b g H. absurd (ok_err (all_gone (bytes s) t fs g H).back.ok bad);
+    pub drop_no_release : {S : Type 0} {contents : S → Contents} {s : S} {e : Unsound} {r : Result Rest Unsound} → ra ≡ Err e → FrontDropped am contents s s rs rs₂ f f₂ tr n r
+    drop_no_release {contents = contents} {s = s} bad = record {
+      drops = λ t fs b g H. absurd (ok_err (all_gone (contents s).bytes t fs g H).back.ok bad);
       few_reads = λ t fs b g H. omega arith;
       same_bytes = refl;
       same_capacity = refl;
     }
 
-    pub drop_all : {S : Type 0} {bytes : S → List ℕ} {capacity reads : S → ℕ} {s : S} {all : ℕ} → ra ≡ Ok all → FrontDropped am bytes capacity reads s s rs rs₂ f f₂ tr n (Ok (record { back = None; right = Empty; gone = all }))
-    drop_all {bytes = bytes} {s = s} {all} got-a = record {
+    pub drop_all : {S : Type 0} {contents : S → Contents} {s : S} {all : ℕ} → ra ≡ Ok all → FrontDropped am contents s s rs rs₂ f f₂ tr n (Ok (record { back = None; right = Empty; gone = all }))
+    drop_all {contents = contents} {s = s} {all} got-a = record {
       drops = λ t fs b g H.
-          let X = all_gone (bytes s) t fs g H in
+          let X = all_gone (contents s).bytes t fs g H in
           let K = X.back in
           let all_is : all ≡ length (rows t) = ok_same got-a K.ok in record {
             G = None;
@@ -92,29 +93,29 @@ module _ {A : Type 0} {am : List ℕ → A} {rs rs₁ : List (Record PieceRow (T
     }
 
   -- what is behind the offset stays
-  module _ {h : Spot} (got : rf ≡ Ok (Some h)) {S : Type 0} {bytes : S → List ℕ} {capacity reads : S → ℕ} {s s' : S} {rs₂ : List (Record PieceRow (TextValue A))} {f₂ : Link} {re : Result Ends Unsound}
-      (E : EndsKept (text_means am) bytes capacity reads s s' rs₁ rs₂ f₁ f₂ h.at 0 h.into re) where
+  module _ {h : Spot} (got : rf ≡ Ok (Some h)) {S : Type 0} {contents : S → Contents} {s s' : S} {rs₂ : List (Record PieceRow (TextValue A))} {f₂ : Link} {re : Result Ends Unsound}
+      (E : EndsKept (text_means am) contents s s' rs₁ rs₂ f₁ f₂ h.at 0 h.into re) where
     abbrev mn : List PieceRow → TextValue A
-    mn = text_mean am (bytes s)
+    mn = text_mean am (contents s).bytes
 
     record Cutting (t : Finger PieceRow (TextValue A)) (fs : List ℕ) : Type 0 where
-      pub O₁ : Opened am (bytes s) rs rs₁ f₁ n rf t fs
+      pub O₁ : Opened am (contents s).bytes rs rs₁ f₁ n rf t fs
       pub left_is : tree_of O₁.l ≡ h.left
       pub at_is : O₁.i ≡ h.at
       pub into_is : O₁.k ≡ h.into
       pub right_is : tree_of O₁.q ≡ h.right
       pub once : (j : ℕ) → (occ O₁.l j + (same h.at j + occ O₁.q j)) + occ_list O₁.fs' j ≤ 1
-      pub good : AllGood (bytes s) (O₁.x ∷ rows O₁.q)
+      pub good : AllGood (contents s).bytes (O₁.x ∷ rows O₁.q)
       pub lens : length (rows t) ≡ length (rows O₁.l) + suc (length (rows O₁.q))
-      pub cuttable : Cuttable (text_means am) bytes capacity reads s rs₁ f₁ h.at 0 h.into O₁.x O₁.v O₁.fs'
+      pub cuttable : Cuttable (text_means am) contents s rs₁ f₁ h.at 0 h.into O₁.x O₁.v O₁.fs'
 
-    cutting : (t : Finger PieceRow (TextValue A)) (fs : List ℕ) → Bounded bytes capacity s → AllGood (bytes s) (rows t) → Holds (λ _. 1) (text_means am) (bytes_of (bytes s)) rs f tr t fs → Cutting t fs
+    cutting : (t : Finger PieceRow (TextValue A)) (fs : List ℕ) → Bounded contents s → AllGood (contents s).bytes (rows t) → Holds (λ _. 1) (text_means am) (bytes_of (contents s).bytes) rs f tr t fs → Cutting t fs
     cutting t fs b g H =
-        let O₁ : Opened am (bytes s) rs rs₁ f₁ n rf t fs = ⊎_elim (λ u. absurd (none_some (sym (ok_same got u.1)))) (λ q. q) (O.opens (bytes s) t fs g H) in
+        let O₁ : Opened am (contents s).bytes rs rs₁ f₁ n rf t fs = ⊎_elim (λ u. absurd (none_some (sym (ok_same got u.1)))) (λ q. q) (O.opens (contents s).bytes t fs g H) in
         let h_is = some_same (ok_same O₁.ok got) in
         let at_is : O₁.i ≡ h.at = ap (λ (y : Spot). y.at) h_is in
         let into_is : O₁.k ≡ h.into = ap (λ (y : Spot). y.into) h_is in
-        let good = all_right (bytes s) (rows O₁.l) (O₁.x ∷ rows O₁.q) (subst (AllGood (bytes s)) O₁.text g) in
+        let good = all_right (contents s).bytes (rows O₁.l) (O₁.x ∷ rows O₁.q) (subst (AllGood (contents s).bytes) O₁.text g) in
         let once : (j : ℕ) → (occ O₁.l j + (same h.at j + occ O₁.q j)) + occ_list O₁.fs' j ≤ 1 = λ j. omega (arith, O₁.moved.kept j, H.once j, ap (λ (i : ℕ). same i j) at_is) in
         record {
           O₁ = O₁;
@@ -139,10 +140,10 @@ module _ {A : Type 0} {am : List ℕ → A} {rs rs₁ : List (Record PieceRow (T
           };
         }
 
-    few_front : (t : Finger PieceRow (TextValue A)) (fs : List ℕ) → Bounded bytes capacity s → AllGood (bytes s) (rows t) → Holds (λ _. 1) (text_means am) (bytes_of (bytes s)) rs f tr t fs → reads s' ≤ reads s + 256
+    few_front : (t : Finger PieceRow (TextValue A)) (fs : List ℕ) → Bounded contents s → AllGood (contents s).bytes (rows t) → Holds (λ _. 1) (text_means am) (bytes_of (contents s).bytes) rs f tr t fs → (contents s').reads ≤ (contents s).reads + 256
     few_front t fs b g H = E.few_reads _ _ _ (cutting t fs b g H).cuttable
 
-    pub drop_no_ends : {e : Unsound} {r : Result Rest Unsound} → re ≡ Err e → FrontDropped am bytes capacity reads s s' rs rs₂ f f₂ tr n r
+    pub drop_no_ends : {e : Unsound} {r : Result Rest Unsound} → re ≡ Err e → FrontDropped am contents s s' rs rs₂ f f₂ tr n r
     drop_no_ends bad = record {
       drops = λ t fs b g H. absurd (ok_err (E.keeps _ _ _ (cutting t fs b g H).cuttable).ok bad);
       few_reads = few_front;
@@ -153,11 +154,11 @@ module _ {A : Type 0} {am : List ℕ → A} {rs rs₁ : List (Record PieceRow (T
     module _ {x : Ends} (got-x : re ≡ Ok x) {rs₃ : List (Record PieceRow (TextValue A))} {f₃ : Link} {ra : Result ℕ Unsound} (R : Released rs₂ rs₃ f₂ f₃ h.left ra) where
       record Halved (t : Finger PieceRow (TextValue A)) (fs : List ℕ) : Type 0 where
         pub X : Cutting t fs
-        pub C : Cut (text_means am) bytes capacity reads s rs₁ rs₂ f₂ h.at 0 h.into re X.O₁.x X.O₁.fs'
+        pub C : Cut (text_means am) contents s rs₁ rs₂ f₂ h.at 0 h.into re X.O₁.x X.O₁.fs'
         pub none_before : (j : ℕ) → occ_part C.F j ≡ 0
         pub back : Back rs₂ rs₃ f₃ ra (occ X.O₁.l) (length (rows X.O₁.l)) C.fs'
 
-      halved : (t : Finger PieceRow (TextValue A)) (fs : List ℕ) → Bounded bytes capacity s → AllGood (bytes s) (rows t) → Holds (λ _. 1) (text_means am) (bytes_of (bytes s)) rs f tr t fs → Halved t fs
+      halved : (t : Finger PieceRow (TextValue A)) (fs : List ℕ) → Bounded contents s → AllGood (contents s).bytes (rows t) → Holds (λ _. 1) (text_means am) (bytes_of (contents s).bytes) rs f tr t fs → Halved t fs
       halved t fs b g H =
           let X = cutting t fs b g H in
           let C = E.keeps _ _ _ X.cuttable in
@@ -170,7 +171,7 @@ module _ {A : Type 0} {am : List ℕ → A} {rs rs₁ : List (Record PieceRow (T
                 (λ j. omega (arith, C.kept j, X.once j)) (omega (arith, X.lens, H.small));
           }
 
-      pub drop_no_before : {e : Unsound} {r : Result Rest Unsound} → ra ≡ Err e → FrontDropped am bytes capacity reads s s' rs rs₃ f f₃ tr n r
+      pub drop_no_before : {e : Unsound} {r : Result Rest Unsound} → ra ≡ Err e → FrontDropped am contents s s' rs rs₃ f f₃ tr n r
       drop_no_before bad = record {
         drops = λ t fs b g H. absurd (ok_err (halved t fs b g H).back.ok bad);
         few_reads = few_front;
@@ -178,7 +179,7 @@ module _ {A : Type 0} {am : List ℕ → A} {rs rs₁ : List (Record PieceRow (T
         same_capacity = E.same_capacity;
       }
 
-      pub drop_made : {before gone : ℕ} → ra ≡ Ok before → gone ≡ min (before + 1) 4294967295 → FrontDropped am bytes capacity reads s s' rs rs₃ f f₃ tr n (Ok (record { back = x.back; right = h.right; gone = gone }))
+      pub drop_made : {before gone : ℕ} → ra ≡ Ok before → gone ≡ min (before + 1) 4294967295 → FrontDropped am contents s s' rs rs₃ f f₃ tr n (Ok (record { back = x.back; right = h.right; gone = gone }))
       drop_made {before} {gone} got-b gone-is = record {
         drops = λ t fs b g H. made t fs b g H;
         few_reads = few_front;
@@ -186,8 +187,8 @@ module _ {A : Type 0} {am : List ℕ → A} {rs rs₁ : List (Record PieceRow (T
         same_capacity = E.same_capacity;
       }
         where
-          made : (t : Finger PieceRow (TextValue A)) (fs : List ℕ) → Bounded bytes capacity s → AllGood (bytes s) (rows t) → Holds (λ _. 1) (text_means am) (bytes_of (bytes s)) rs f tr t fs
-              → Cleared am bytes capacity reads (bytes s) rs rs₃ f₃ n (Ok (record { back = x.back; right = h.right; gone = gone })) t fs
+          made : (t : Finger PieceRow (TextValue A)) (fs : List ℕ) → Bounded contents s → AllGood (contents s).bytes (rows t) → Holds (λ _. 1) (text_means am) (bytes_of (contents s).bytes) rs f tr t fs
+              → Cleared am contents (contents s).bytes rs rs₃ f₃ n (Ok (record { back = x.back; right = h.right; gone = gone })) t fs
           made t fs b g H =
               let Y = halved t fs b g H in
               let X = Y.X in
@@ -211,10 +212,10 @@ module _ {A : Type 0} {am : List ℕ → A} {rs rs₁ : List (Record PieceRow (T
                 js = C.js ++ [];
                 ok = rest_same (ap (λ (y : Ends). y.back) (sym x-is)) (sym X.right_is);
                 after_is = ap (λ (y : List PieceRow). map piece_of (y ++ rows q)) rows_g
-                    ∙ sym (ap (λ (y : List PieceRow). after n (map piece_of y)) X.O₁.text ∙ after_at (bytes s) (rows l) X.O₁.x (rows q) n k X.good X.O₁.offset (omega (arith, X.O₁.within)));
+                    ∙ sym (ap (λ (y : List PieceRow). after n (map piece_of y)) X.O₁.text ∙ after_at (contents s).bytes (rows l) X.O₁.x (rows q) n k X.good X.O₁.offset (omega (arith, X.O₁.within)));
                 count = omega (arith, X.lens, H.small);
                 small_g = C.small_back;
-                good_after = all_append (bytes s) (rows_part C.G) (rows q) (subst (AllGood (bytes s)) (sym rows_g) (rest_good (bytes s) k X.O₁.x X.good.0)) X.good.1;
+                good_after = all_append (contents s).bytes (rows_part C.G) (rows q) (subst (AllGood (contents s).bytes) (sym rows_g) (rest_good (contents s).bytes k X.O₁.x X.good.0)) X.good.1;
                 fit_g = frame_part K.frame mn C.G 0 (λ j. omega (arith, C.kept j, X.once j)) C.fit_back;
                 fit_q = frame K.frame mn q 0 (λ j. omega (arith, X.once j)) (frame C.frame mn q 0 (λ j. omega (arith, X.once j)) X.O₁.fit_q);
                 moved = moved_then (λ j. occ_part C.G j + occ q j) (λ j. occ_part C.G j + occ q j) m₁ (λ j. omega arith) (moved_back K) (λ j. omega arith);

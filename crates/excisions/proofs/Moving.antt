@@ -1,11 +1,11 @@
 -- One move of slots and then another.
 use Rattle.std.proofs.Common.{◌≡◌, ℕ, ◌+◌, List, [], ◌++◌, get_or, Result, refl, inr, arith}
 use Rattle.slots.specs.Ghost.{occ_list, none, head_of, Chain, Calm, Off}
-use Rattle.slots.specs.declared.records.Link.{Link}
+use Rattle.slots.specs.Words.{Link}
 use Rattle.slots.specs.declared.records.Record.{Record}
 use Rattle.slots.specs.declared.records.Unsound.{Unsound}
 use Rattle.slots.proofs.Frames.{occ_list_append, calm_then, off_refl, off_then, off_more}
-use Rattle.release_count.specs.Post.{Back}
+use Rattle.release.specs.Post.{Back}
 use Rattle.excisions.specs.Moves.{Moved}
 
 module _ {R V : Type 0} where

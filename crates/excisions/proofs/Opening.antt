@@ -4,7 +4,7 @@ use Rattle.slots.specs.Ghost.{Finger, same, none, rows, occ}
 use Rattle.slots.specs.Holds.{Holds}
 use Rattle.slots.specs.Values.{row_in}
 use Rattle.slots.specs.declared.records.Unsound.{Unsound}
-use Rattle.slots.specs.declared.records.Link.{Link}
+use Rattle.slots.specs.Words.{Link}
 use Rattle.slots.specs.declared.records.Tree.{Tree}
 use Rattle.slots.specs.declared.records.Record.{Record}
 use Rattle.slots.proofs.Shapes.{ok_err, ok_same}

@@ -1,10 +1,10 @@
 -- The paths of taking bytes out from a spot on.
 use Rattle.std.proofs.Common.{◌≡◌, ℕ, ◌+◌, ◌-◌, ◌<◌, ◌≤◌, min, List, [], ◌∷◌, ◌++◌, map, length, None, Ok, Err, Option, Result, sym, refl, ap, ◌∙◌, subst, ap₂, inr, arith, length-append}
-use Rattle.stores.specs.Stores.{largest}
+use Rattle.stores.specs.Stores.{Contents, largest}
 use Rattle.plain.specs.Pieces.{Piece}
 use Rattle.slots.specs.Ghost.{Finger, nil, same, rows_part, rows, occ_part, occ}
 use Rattle.slots.specs.declared.records.Unsound.{Unsound}
-use Rattle.slots.specs.declared.records.Link.{Link}
+use Rattle.slots.specs.Words.{Link}
 use Rattle.slots.specs.declared.records.Tree.{Tree}
 use Rattle.slots.specs.declared.records.Tree.TheVariants.{Empty}
 use Rattle.slots.specs.declared.records.Digit.{Digit}
@@ -35,15 +35,15 @@ taken_same : {a a' c c' d d' g g' : Option Digit} {m m' q q' : Tree} → a ≡ a
 taken_same e₁ e₂ e₃ e₄ e₅ e₆ = cc
 
 -- all of it in the leaf
-module _ {A S : Type 0} {am : List ℕ → A} {bytes : S → List ℕ} {capacity reads : S → ℕ} {s s₁ : S} {rs rs₁ : List (Record PieceRow (TextValue A))} {f f₁ : Link} (spot : Spot) (n : ℕ) {en : ℕ} {re : Result Ends Unsound}
-    (end_is : en ≡ min (spot.into + n) 4294967295) (low : en ≤ spot.row.length) (E : EndsKept (text_means am) bytes capacity reads s s₁ rs rs₁ f f₁ spot.at spot.into en re) where
-  cut_in : (v : TextValue A) (q : Finger PieceRow (TextValue A)) (fs : List ℕ) → Behind am bytes capacity s rs f spot v q fs → 0 < n → spot.into + n ≤ sizes (spot.row ∷ rows q) → Cut (text_means am) bytes capacity reads s rs rs₁ f₁ spot.at spot.into en re spot.row fs
+module _ {A S : Type 0} {am : List ℕ → A} {contents : S → Contents} {s s₁ : S} {rs rs₁ : List (Record PieceRow (TextValue A))} {f f₁ : Link} (spot : Spot) (n : ℕ) {en : ℕ} {re : Result Ends Unsound}
+    (end_is : en ≡ min (spot.into + n) 4294967295) (low : en ≤ spot.row.length) (E : EndsKept (text_means am) contents s s₁ rs rs₁ f f₁ spot.at spot.into en re) where
+  cut_in : (v : TextValue A) (q : Finger PieceRow (TextValue A)) (fs : List ℕ) → Behind am contents s rs f spot v q fs → 0 < n → spot.into + n ≤ sizes (spot.row ∷ rows q) → Cut (text_means am) contents s rs rs₁ f₁ spot.at spot.into en re spot.row fs
   cut_in v q fs K lt le = E.keeps spot.row v fs (cuttable K en (omega (arith, end_at K n le end_is)) low)
 
-  few_in : (v : TextValue A) (q : Finger PieceRow (TextValue A)) (fs : List ℕ) → Behind am bytes capacity s rs f spot v q fs → 0 < n → spot.into + n ≤ sizes (spot.row ∷ rows q) → reads s₁ ≤ reads s + 256
+  few_in : (v : TextValue A) (q : Finger PieceRow (TextValue A)) (fs : List ℕ) → Behind am contents s rs f spot v q fs → 0 < n → spot.into + n ≤ sizes (spot.row ∷ rows q) → (contents s₁).reads ≤ (contents s).reads + 256
   few_in v q fs K lt le = E.few_reads spot.row v fs (cuttable K en (omega (arith, end_at K n le end_is)) low)
 
-  pub inside_no_ends : {e : Unsound} {r : Result Taken Unsound} → re ≡ Err e → TakenFrom am bytes capacity reads s s₁ rs rs₁ f f₁ spot n r
+  pub inside_no_ends : {e : Unsound} {r : Result Taken Unsound} → re ≡ Err e → TakenFrom am contents s s₁ rs rs₁ f f₁ spot n r
   inside_no_ends bad = record {
     takes = λ v q fs K lt le. absurd (ok_err (cut_in v q fs K lt le).ok bad);
     few_reads = λ v q fs K lt le. omega (arith, few_in v q fs K lt le);
@@ -52,36 +52,36 @@ module _ {A S : Type 0} {am : List ℕ → A} {bytes : S → List ℕ} {capacity
   }
 
   module _ {x : Ends} (got-x : re ≡ Ok x) {s₂ : S} {rs₂ : List (Record PieceRow (TextValue A))} {f₂ : Link} {ad : ℕ} {rp : Result (Option Digit) Unsound}
-      (ad_is : ad ≡ min (spot.row.address + spot.into) 4294967295) (P : PartPut (text_means am) bytes capacity reads s₁ s₂ rs₁ rs₂ f₁ f₂ (row ad n) rp) where
-    row_is : (v : TextValue A) (q : Finger PieceRow (TextValue A)) (fs : List ℕ) → Behind am bytes capacity s rs f spot v q fs → 0 < n → spot.into + n ≤ sizes (spot.row ∷ rows q) → row ad n ≡ middle_of spot.into en spot.row
+      (ad_is : ad ≡ min (spot.row.address + spot.into) 4294967295) (P : PartPut (text_means am) contents s₁ s₂ rs₁ rs₂ f₁ f₂ (row ad n) rp) where
+    row_is : (v : TextValue A) (q : Finger PieceRow (TextValue A)) (fs : List ℕ) → Behind am contents s rs f spot v q fs → 0 < n → spot.into + n ≤ sizes (spot.row ∷ rows q) → row ad n ≡ middle_of spot.into en spot.row
     row_is v q fs K lt le =
-        let inside : spot.row.address + spot.row.length ≤ length (bytes s) = K.good.0.2 in
-        let held : length (bytes s) ≤ capacity s = K.bounded.0 in
-        let most : capacity s ≤ largest = K.bounded.1 in
+        let inside : spot.row.address + spot.row.length ≤ length (contents s).bytes = K.good.0.2 in
+        let held : length (contents s).bytes ≤ (contents s).capacity = K.bounded.0 in
+        let most : (contents s).capacity ≤ largest = K.bounded.1 in
         let e : en ≡ spot.into + n = end_at K n le end_is in
         let at : ad ≡ spot.row.address + spot.into = omega (arith, K.into) in
         let len : n ≡ en - spot.into = omega arith in
         ap₂ row at len
 
-    middle_fine : (v : TextValue A) (q : Finger PieceRow (TextValue A)) (fs : List ℕ) → Behind am bytes capacity s rs f spot v q fs → 0 < n → spot.into + n ≤ sizes (spot.row ∷ rows q) → Good (bytes s) (middle_of spot.into en spot.row)
-    middle_fine v q fs K lt le = middle_good (bytes s) spot.into en spot.row (omega (arith, end_at K n le end_is)) low K.good.0
+    middle_fine : (v : TextValue A) (q : Finger PieceRow (TextValue A)) (fs : List ℕ) → Behind am contents s rs f spot v q fs → 0 < n → spot.into + n ≤ sizes (spot.row ∷ rows q) → Good (contents s).bytes (middle_of spot.into en spot.row)
+    middle_fine v q fs K lt le = middle_good (contents s).bytes spot.into en spot.row (omega (arith, end_at K n le end_is)) low K.good.0
 
-    only : (v : TextValue A) (q : Finger PieceRow (TextValue A)) (fs : List ℕ) (K : Behind am bytes capacity s rs f spot v q fs) (lt : 0 < n) (le : spot.into + n ≤ sizes (spot.row ∷ rows q)) → PartMade (text_means am) (bytes s) rs₁ rs₂ f₂ rp (middle_of spot.into en spot.row ∷ []) (cut_in v q fs K lt le).fs'
+    only : (v : TextValue A) (q : Finger PieceRow (TextValue A)) (fs : List ℕ) (K : Behind am contents s rs f spot v q fs) (lt : 0 < n) (le : spot.into + n ≤ sizes (spot.row ∷ rows q)) → PartMade (text_means am) (contents s).bytes rs₁ rs₂ f₂ rp (middle_of spot.into en spot.row ∷ []) (cut_in v q fs K lt le).fs'
     only v q fs K lt le =
         let C = cut_in v q fs K lt le in
         let is = row_is v q fs K lt le in
         subst (λ (B : List ℕ). PartMade (text_means am) B rs₁ rs₂ f₂ rp (middle_of spot.into en spot.row ∷ []) C.fs') E.same_bytes
-        (part_made (row ad n) P (bounded_by bytes capacity s s₁ E.same_bytes E.same_capacity K.bounded) (middle_of spot.into en spot.row ∷ [])
-        (inr (subst (Good (bytes s₁)) (sym is) (subst (λ (B : List ℕ). Good B (middle_of spot.into en spot.row)) (sym E.same_bytes) (middle_fine v q fs K lt le)), ap (λ (y : PieceRow). y ∷ []) (sym is)))
+        (part_made (row ad n) P (bounded_by contents s s₁ E.same_bytes E.same_capacity K.bounded) (middle_of spot.into en spot.row ∷ [])
+        (inr (subst (Good (contents s₁).bytes) (sym is) (subst (λ (B : List ℕ). Good B (middle_of spot.into en spot.row)) (sym E.same_bytes) (middle_fine v q fs K lt le)), ap (λ (y : PieceRow). y ∷ []) (sym is)))
         C.fs' C.first C.chain (λ i. omega (arith, C.kept i, K.once i)) (omega (arith, C.spent, K.long)))
 
-    few_inside : (v : TextValue A) (q : Finger PieceRow (TextValue A)) (fs : List ℕ) → Behind am bytes capacity s rs f spot v q fs → 0 < n → spot.into + n ≤ sizes (spot.row ∷ rows q) → reads s₂ ≤ reads s + 512
+    few_inside : (v : TextValue A) (q : Finger PieceRow (TextValue A)) (fs : List ℕ) → Behind am contents s rs f spot v q fs → 0 < n → spot.into + n ≤ sizes (spot.row ∷ rows q) → (contents s₂).reads ≤ (contents s).reads + 512
     few_inside v q fs K lt le =
         let short : spot.row.length ≤ 256 = K.good.0.1 in
-        let more : reads s₂ ≤ reads s₁ + n = P.few in
+        let more : (contents s₂).reads ≤ (contents s₁).reads + n = P.few in
         omega (arith, few_in v q fs K lt le, end_at K n le end_is)
 
-    pub inside_no_leaf : {e : Unsound} {r : Result Taken Unsound} → rp ≡ Err e → TakenFrom am bytes capacity reads s s₂ rs rs₂ f f₂ spot n r
+    pub inside_no_leaf : {e : Unsound} {r : Result Taken Unsound} → rp ≡ Err e → TakenFrom am contents s s₂ rs rs₂ f f₂ spot n r
     inside_no_leaf bad = record {
       takes = λ v q fs K lt le. absurd (ok_err (only v q fs K lt le).ok bad);
       few_reads = few_inside;
@@ -89,7 +89,7 @@ module _ {A S : Type 0} {am : List ℕ → A} {bytes : S → List ℕ} {capacity
       same_capacity = P.same_capacity ∙ E.same_capacity;
     }
 
-    pub inside_made : {d : Option Digit} → rp ≡ Ok d → TakenFrom am bytes capacity reads s s₂ rs rs₂ f f₂ spot n (Ok (record { front = x.front; first = d; middle = Empty; last = None; back = x.back; right = spot.right }))
+    pub inside_made : {d : Option Digit} → rp ≡ Ok d → TakenFrom am contents s s₂ rs rs₂ f f₂ spot n (Ok (record { front = x.front; first = d; middle = Empty; last = None; back = x.back; right = spot.right }))
     inside_made {d} got-d = record {
       takes = λ v q fs K lt le. made v q fs K lt le;
       few_reads = few_inside;
@@ -97,11 +97,11 @@ module _ {A S : Type 0} {am : List ℕ → A} {bytes : S → List ℕ} {capacity
       same_capacity = P.same_capacity ∙ E.same_capacity;
     }
       where
-        made : (v : TextValue A) (q : Finger PieceRow (TextValue A)) (fs : List ℕ) → Behind am bytes capacity s rs f spot v q fs → 0 < n → spot.into + n ≤ sizes (spot.row ∷ rows q) → Took am bytes capacity reads (bytes s) rs rs₂ f₂ spot n (Ok (record { front = x.front; first = d; middle = Empty; last = None; back = x.back; right = spot.right })) q fs
+        made : (v : TextValue A) (q : Finger PieceRow (TextValue A)) (fs : List ℕ) → Behind am contents s rs f spot v q fs → 0 < n → spot.into + n ≤ sizes (spot.row ∷ rows q) → Took am contents (contents s).bytes rs rs₂ f₂ spot n (Ok (record { front = x.front; first = d; middle = Empty; last = None; back = x.back; right = spot.right })) q fs
         made v q fs K lt le =
             let C = cut_in v q fs K lt le in
             let Y = only v q fs K lt le in
-            let mn : List PieceRow → TextValue A = text_mean am (bytes s) in
+            let mn : List PieceRow → TextValue A = text_mean am (contents s).bytes in
             let x-is = ok_same got-x C.ok in
             let e : en ≡ spot.into + n = end_at K n le end_is in
             let m₁ : Moved rs rs₁ f₁ (λ j. same spot.at j + occ q j) (λ j. occ_part C.F j + (occ_part C.G j + occ q j)) fs C.fs' C.js =
@@ -120,15 +120,15 @@ module _ {A S : Type 0} {am : List ℕ → A} {bytes : S → List ℕ} {capacity
               ok = taken_same (ap (λ (z : Ends). z.front) x-is) (ok_same got-d Y.ok) refl refl (ap (λ (z : Ends). z.back) x-is) (sym K.tree);
               front_is = C.rows_front;
               between_is = ap (λ (y : List PieceRow). map piece_of (y ++ [])) Y.rows_are
-                  ∙ sym (between_within (bytes s) [] spot.row spot.into spot.into (omega arith) K.into (rows q) (spot.into + n) en K.good (omega arith) (omega arith) low);
+                  ∙ sym (between_within (contents s).bytes [] spot.row spot.into spot.into (omega arith) K.into (rows q) (spot.into + n) en K.good (omega arith) (omega arith) low);
               after_is = ap (λ (y : List PieceRow). map piece_of (y ++ rows q)) C.rows_back
-                  ∙ sym (after_at (bytes s) [] spot.row (rows q) (spot.into + n) en K.good (omega arith) low);
+                  ∙ sym (after_at (contents s).bytes [] spot.row (rows q) (spot.into + n) en K.good (omega arith) low);
               small_f = C.small_front;
               small_c = Y.small;
               small_d = omega arith;
               small_g = C.small_back;
-              good_between = subst (λ (y : List PieceRow). AllGood (bytes s) (y ++ [])) (sym Y.rows_are) (middle_fine v q fs K lt le, tt);
-              good_after = all_append (bytes s) (rows_part C.G) (rows q) (subst (AllGood (bytes s)) (sym C.rows_back) (rest_good (bytes s) en spot.row K.good.0)) K.good.1;
+              good_between = subst (λ (y : List PieceRow). AllGood (contents s).bytes (y ++ [])) (sym Y.rows_are) (middle_fine v q fs K lt le, tt);
+              good_after = all_append (contents s).bytes (rows_part C.G) (rows q) (subst (AllGood (contents s).bytes) (sym C.rows_back) (rest_good (contents s).bytes en spot.row K.good.0)) K.good.1;
               fit_f = frame_part Y.frame mn C.F 0 (λ j. omega (arith, C.kept j, K.once j)) C.fit_front;
               fit_c = Y.fit;
               fit_m = tt;
@@ -140,15 +140,15 @@ module _ {A S : Type 0} {am : List ℕ → A} {bytes : S → List ℕ} {capacity
             }
 
 -- on past the leaf
-module _ {A S : Type 0} {am : List ℕ → A} {bytes : S → List ℕ} {capacity reads : S → ℕ} {s s₁ : S} {rs rs₁ : List (Record PieceRow (TextValue A))} {f f₁ : Link} (spot : Spot) (n : ℕ) {en : ℕ} {re : Result Ends Unsound}
-    (end_is : en ≡ min (spot.into + n) 4294967295) (high : spot.row.length < en) (E : EndsKept (text_means am) bytes capacity reads s s₁ rs rs₁ f f₁ spot.at spot.into spot.into re) where
-  cut_at : (v : TextValue A) (q : Finger PieceRow (TextValue A)) (fs : List ℕ) → Behind am bytes capacity s rs f spot v q fs → Cut (text_means am) bytes capacity reads s rs rs₁ f₁ spot.at spot.into spot.into re spot.row fs
+module _ {A S : Type 0} {am : List ℕ → A} {contents : S → Contents} {s s₁ : S} {rs rs₁ : List (Record PieceRow (TextValue A))} {f f₁ : Link} (spot : Spot) (n : ℕ) {en : ℕ} {re : Result Ends Unsound}
+    (end_is : en ≡ min (spot.into + n) 4294967295) (high : spot.row.length < en) (E : EndsKept (text_means am) contents s s₁ rs rs₁ f f₁ spot.at spot.into spot.into re) where
+  cut_at : (v : TextValue A) (q : Finger PieceRow (TextValue A)) (fs : List ℕ) → Behind am contents s rs f spot v q fs → Cut (text_means am) contents s rs rs₁ f₁ spot.at spot.into spot.into re spot.row fs
   cut_at v q fs K = E.keeps spot.row v fs (cuttable K spot.into (omega arith) (omega (arith, K.into)))
 
-  few_at : (v : TextValue A) (q : Finger PieceRow (TextValue A)) (fs : List ℕ) → Behind am bytes capacity s rs f spot v q fs → reads s₁ ≤ reads s + 256
+  few_at : (v : TextValue A) (q : Finger PieceRow (TextValue A)) (fs : List ℕ) → Behind am contents s rs f spot v q fs → (contents s₁).reads ≤ (contents s).reads + 256
   few_at v q fs K = E.few_reads spot.row v fs (cuttable K spot.into (omega arith) (omega (arith, K.into)))
 
-  pub across_no_ends : {e : Unsound} {r : Result Taken Unsound} → re ≡ Err e → TakenFrom am bytes capacity reads s s₁ rs rs₁ f f₁ spot n r
+  pub across_no_ends : {e : Unsound} {r : Result Taken Unsound} → re ≡ Err e → TakenFrom am contents s s₁ rs rs₁ f f₁ spot n r
   across_no_ends bad = record {
     takes = λ v q fs K lt le. absurd (ok_err (cut_at v q fs K).ok bad);
     few_reads = λ v q fs K lt le. omega (arith, few_at v q fs K);
@@ -157,20 +157,20 @@ module _ {A S : Type 0} {am : List ℕ → A} {bytes : S → List ℕ} {capacity
   }
 
   module _ {x : Ends} (got-x : re ≡ Ok x) {s₂ : S} {rs₂ : List (Record PieceRow (TextValue A))} {f₂ : Link} {rp : Result Parts Unsound}
-      (D : PartedAt am bytes capacity reads s₁ s₂ rs₁ rs₂ f₁ f₂ spot.right (en - spot.row.length) rp) where
-    behind_apart : (v : TextValue A) (q : Finger PieceRow (TextValue A)) (fs : List ℕ) (K : Behind am bytes capacity s rs f spot v q fs) → Apart am bytes capacity reads (bytes s) rs₁ rs₂ f₂ (en - spot.row.length) rp q (cut_at v q fs K).fs'
+      (D : PartedAt am contents s₁ s₂ rs₁ rs₂ f₁ f₂ spot.right (en - spot.row.length) rp) where
+    behind_apart : (v : TextValue A) (q : Finger PieceRow (TextValue A)) (fs : List ℕ) (K : Behind am contents s rs f spot v q fs) → Apart am contents (contents s).bytes rs₁ rs₂ f₂ (en - spot.row.length) rp q (cut_at v q fs K).fs'
     behind_apart v q fs K =
         let C = cut_at v q fs K in
-        subst (λ (B : List ℕ). Apart am bytes capacity reads B rs₁ rs₂ f₂ (en - spot.row.length) rp q C.fs') E.same_bytes
-        (D.parts q C.fs' (bounded_by bytes capacity s s₁ E.same_bytes E.same_capacity K.bounded) (subst (λ (B : List ℕ). AllGood B (rows q)) (sym E.same_bytes) K.good.1) (cut_holds K C E.same_bytes))
+        subst (λ (B : List ℕ). Apart am contents B rs₁ rs₂ f₂ (en - spot.row.length) rp q C.fs') E.same_bytes
+        (D.parts q C.fs' (bounded_by contents s s₁ E.same_bytes E.same_capacity K.bounded) (subst (λ (B : List ℕ). AllGood B (rows q)) (sym E.same_bytes) K.good.1) (cut_holds K C E.same_bytes))
 
-    few_across : (v : TextValue A) (q : Finger PieceRow (TextValue A)) (fs : List ℕ) → Behind am bytes capacity s rs f spot v q fs → reads s₂ ≤ reads s + 512
+    few_across : (v : TextValue A) (q : Finger PieceRow (TextValue A)) (fs : List ℕ) → Behind am contents s rs f spot v q fs → (contents s₂).reads ≤ (contents s).reads + 512
     few_across v q fs K =
         let C = cut_at v q fs K in
-        let more : reads s₂ ≤ reads s₁ + 256 = D.few_reads q C.fs' (bounded_by bytes capacity s s₁ E.same_bytes E.same_capacity K.bounded) (subst (λ (B : List ℕ). AllGood B (rows q)) (sym E.same_bytes) K.good.1) (cut_holds K C E.same_bytes) in
+        let more : (contents s₂).reads ≤ (contents s₁).reads + 256 = D.few_reads q C.fs' (bounded_by contents s s₁ E.same_bytes E.same_capacity K.bounded) (subst (λ (B : List ℕ). AllGood B (rows q)) (sym E.same_bytes) K.good.1) (cut_holds K C E.same_bytes) in
         omega (arith, few_at v q fs K)
 
-    pub across_no_parts : {e : Unsound} {r : Result Taken Unsound} → rp ≡ Err e → TakenFrom am bytes capacity reads s s₂ rs rs₂ f f₂ spot n r
+    pub across_no_parts : {e : Unsound} {r : Result Taken Unsound} → rp ≡ Err e → TakenFrom am contents s s₂ rs rs₂ f f₂ spot n r
     across_no_parts bad = record {
       takes = λ v q fs K lt le. absurd (ok_err (behind_apart v q fs K).ok bad);
       few_reads = λ v q fs K lt le. few_across v q fs K;
@@ -178,7 +178,7 @@ module _ {A S : Type 0} {am : List ℕ → A} {bytes : S → List ℕ} {capacity
       same_capacity = D.same_capacity ∙ E.same_capacity;
     }
 
-    pub across_made : {y : Parts} → rp ≡ Ok y → TakenFrom am bytes capacity reads s s₂ rs rs₂ f f₂ spot n (Ok (record { front = x.front; first = x.back; middle = y.left; last = y.front; back = y.back; right = y.right }))
+    pub across_made : {y : Parts} → rp ≡ Ok y → TakenFrom am contents s s₂ rs rs₂ f f₂ spot n (Ok (record { front = x.front; first = x.back; middle = y.left; last = y.front; back = y.back; right = y.right }))
     across_made {y} got-y = record {
       takes = λ v q fs K lt le. made v q fs K le;
       few_reads = λ v q fs K lt le. few_across v q fs K;
@@ -186,12 +186,12 @@ module _ {A S : Type 0} {am : List ℕ → A} {bytes : S → List ℕ} {capacity
       same_capacity = D.same_capacity ∙ E.same_capacity;
     }
       where
-        made : (v : TextValue A) (q : Finger PieceRow (TextValue A)) (fs : List ℕ) → Behind am bytes capacity s rs f spot v q fs → spot.into + n ≤ sizes (spot.row ∷ rows q)
-            → Took am bytes capacity reads (bytes s) rs rs₂ f₂ spot n (Ok (record { front = x.front; first = x.back; middle = y.left; last = y.front; back = y.back; right = y.right })) q fs
+        made : (v : TextValue A) (q : Finger PieceRow (TextValue A)) (fs : List ℕ) → Behind am contents s rs f spot v q fs → spot.into + n ≤ sizes (spot.row ∷ rows q)
+            → Took am contents (contents s).bytes rs rs₂ f₂ spot n (Ok (record { front = x.front; first = x.back; middle = y.left; last = y.front; back = y.back; right = y.right })) q fs
         made v q fs K le =
             let C = cut_at v q fs K in
             let X = behind_apart v q fs K in
-            let mn : List PieceRow → TextValue A = text_mean am (bytes s) in
+            let mn : List PieceRow → TextValue A = text_mean am (contents s).bytes in
             let x-is = ok_same got-x C.ok in
             let y-is = ok_same got-y X.ok in
             let e : en ≡ spot.into + n = end_at K n le end_is in
@@ -218,7 +218,7 @@ module _ {A S : Type 0} {am : List ℕ → A} {bytes : S → List ℕ} {capacity
               small_c = C.small_back;
               small_d = X.small_f;
               small_g = X.small_g;
-              good_between = all_append (bytes s) (rows_part C.G) (rows X.l ++ rows_part X.F) (subst (AllGood (bytes s)) (sym C.rows_back) (rest_good (bytes s) spot.into spot.row K.good.0)) X.good_before;
+              good_between = all_append (contents s).bytes (rows_part C.G) (rows X.l ++ rows_part X.F) (subst (AllGood (contents s).bytes) (sym C.rows_back) (rest_good (contents s).bytes spot.into spot.row K.good.0)) X.good_before;
               good_after = X.good_after;
               fit_f = frame_part X.frame mn C.F 0 (λ j. omega (arith, C.kept j, K.once j)) C.fit_front;
               fit_c = frame_part X.frame mn C.G 0 (λ j. omega (arith, C.kept j, K.once j)) C.fit_back;

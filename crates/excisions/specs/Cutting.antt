@@ -2,9 +2,10 @@
 use Rattle.std.specs.Prelude.{◌≡◌, ℕ, ◌+◌, ◌*◌, ◌<◌, ◌≤◌, List, ◌∷◌, ◌++◌, map, length, Ok, Option, Result, slice_index_or}
 use Rattle.plain.specs.Machine.{limit}
 use Rattle.plain.specs.Pieces.{Piece, before, after, between}
+use Rattle.stores.specs.Stores.{Contents}
 use Rattle.slots.specs.Ghost.{Arm, Finger, same, occ_list, none, part_of, tree_of, rows_part, rows, levels, size_part, occ_part, occ, FitPart, Fit, Calm}
 use Rattle.slots.specs.declared.records.Unsound.{Unsound}
-use Rattle.slots.specs.declared.records.Link.{Link}
+use Rattle.slots.specs.Words.{Link}
 use Rattle.slots.specs.declared.records.Tree.{Tree}
 use Rattle.slots.specs.declared.records.Record.{Record}
 use Rattle.pieces.specs.Leaves.{Bounded}
@@ -34,7 +35,7 @@ pub record TwoMade {A : Type 0} (am : List ℕ → A) (B : List ℕ) (rs rs' : L
   pub few : length js ≤ 4 * levels t' + (2 * levels k' + 4)
   pub fresh : (i : ℕ) → occ_list js i ≡ 0 → Calm (slice_index_or rs i none) (slice_index_or rs' i none)
 
-module _ {A S : Type 0} (am : List ℕ → A) (bytes : S → List ℕ) (capacity reads : S → ℕ) where
+module _ {A S : Type 0} (am : List ℕ → A) (contents : S → Contents) where
   -- The leaf of a spot and the tree q behind it in three: F is before the n bytes from the spot on, then C, the tree m and D
   -- hold these, and G and the tree q' are behind them.
   pub record Took (B : List ℕ) (rs rs' : List (Record PieceRow (TextValue A))) (f' : Link) (spot : Spot) (n : ℕ) (r : Result Taken Unsound) (q : Finger PieceRow (TextValue A)) (fs : List ℕ) : Type 0 where
@@ -66,16 +67,16 @@ module _ {A S : Type 0} (am : List ℕ → A) (bytes : S → List ℕ) (capacity
     pub few : length js ≤ 4
 
   pub record TakenFrom (s s' : S) (rs rs' : List (Record PieceRow (TextValue A))) (f f' : Link) (spot : Spot) (n : ℕ) (r : Result Taken Unsound) : Type 0 where
-    pub takes : (v : TextValue A) (q : Finger PieceRow (TextValue A)) (fs : List ℕ) → Behind am bytes capacity s rs f spot v q fs → 0 < n → spot.into + n ≤ sizes (spot.row ∷ rows q) → Took (bytes s) rs rs' f' spot n r q fs
-    pub few_reads : (v : TextValue A) (q : Finger PieceRow (TextValue A)) (fs : List ℕ) → Behind am bytes capacity s rs f spot v q fs → 0 < n → spot.into + n ≤ sizes (spot.row ∷ rows q) → reads s' ≤ reads s + 512
-    pub same_bytes : bytes s' ≡ bytes s
-    pub same_capacity : capacity s' ≡ capacity s
+    pub takes : (v : TextValue A) (q : Finger PieceRow (TextValue A)) (fs : List ℕ) → Behind am contents s rs f spot v q fs → 0 < n → spot.into + n ≤ sizes (spot.row ∷ rows q) → Took (contents s).bytes rs rs' f' spot n r q fs
+    pub few_reads : (v : TextValue A) (q : Finger PieceRow (TextValue A)) (fs : List ℕ) → Behind am contents s rs f spot v q fs → 0 < n → spot.into + n ≤ sizes (spot.row ∷ rows q) → (contents s').reads ≤ (contents s).reads + 512
+    pub same_bytes : (contents s').bytes ≡ (contents s).bytes
+    pub same_capacity : (contents s').capacity ≡ (contents s).capacity
 
   -- The text t without the bytes from a to b, and the tree of these.
   pub record CutOut (s s' : S) (rs rs' : List (Record PieceRow (TextValue A))) (f f' : Link) (tr : Tree) (a b : ℕ) (r : Result CutText Unsound) : Type 0 where
-    pub cuts : (t : Finger PieceRow (TextValue A)) (fs : List ℕ) → Bounded bytes capacity s → AllGood (bytes s) (rows t) → Laid (text_mean am (bytes s)) rs f tr t fs → a < b → b ≤ sizes (rows t)
+    pub cuts : (t : Finger PieceRow (TextValue A)) (fs : List ℕ) → Bounded contents s → AllGood (contents s).bytes (rows t) → Laid (text_mean am (contents s).bytes) rs f tr t fs → a < b → b ≤ sizes (rows t)
         → length (before a (map piece_of (rows t)) ++ after b (map piece_of (rows t))) + length (between a b (map piece_of (rows t))) ≤ limit (length rs)
-        → TwoMade am (bytes s) rs rs' f' r (before a (map piece_of (rows t)) ++ after b (map piece_of (rows t))) (between a b (map piece_of (rows t)))
-    pub few_reads : (t : Finger PieceRow (TextValue A)) (fs : List ℕ) → Bounded bytes capacity s → AllGood (bytes s) (rows t) → Laid (text_mean am (bytes s)) rs f tr t fs → a < b → b ≤ sizes (rows t) → reads s' ≤ reads s + 512
-    pub same_bytes : bytes s' ≡ bytes s
-    pub same_capacity : capacity s' ≡ capacity s
+        → TwoMade am (contents s).bytes rs rs' f' r (before a (map piece_of (rows t)) ++ after b (map piece_of (rows t))) (between a b (map piece_of (rows t)))
+    pub few_reads : (t : Finger PieceRow (TextValue A)) (fs : List ℕ) → Bounded contents s → AllGood (contents s).bytes (rows t) → Laid (text_mean am (contents s).bytes) rs f tr t fs → a < b → b ≤ sizes (rows t) → (contents s').reads ≤ (contents s).reads + 512
+    pub same_bytes : (contents s').bytes ≡ (contents s).bytes
+    pub same_capacity : (contents s').capacity ≡ (contents s).capacity

@@ -2,10 +2,11 @@
 use Rattle.std.specs.Prelude.{◌≡◌, ℕ, suc, ◌+◌, ◌<◌, ◌≤◌, List, ◌∷◌, ◌++◌, map, length, Some, None, Ok, Option, Result}
 use Rattle.plain.specs.Machine.{limit}
 use Rattle.plain.specs.Pieces.{Piece, before, after}
+use Rattle.stores.specs.Stores.{Contents}
 use Rattle.slots.specs.Ghost.{Arm, Finger, same, part_of, tree_of, rows_part, rows, size_part, occ_part, occ, FitPart, Fit}
 use Rattle.slots.specs.Holds.{Holds}
 use Rattle.slots.specs.declared.records.Unsound.{Unsound}
-use Rattle.slots.specs.declared.records.Link.{Link}
+use Rattle.slots.specs.Words.{Link}
 use Rattle.slots.specs.declared.records.Digit.{Digit}
 use Rattle.slots.specs.declared.records.Tree.{Tree}
 use Rattle.slots.specs.declared.records.Record.{Record}
@@ -32,7 +33,7 @@ pub record DeleteMade {A : Type 0} (am : List ℕ → A) (B : List ℕ) (rs rs' 
   pub made : TextMade am B rs rs' f' (Ok tree) G 4 4
   pub ok : r ≡ Ok (record { text = tree; pieces = length (rows made.t') })
 
-module _ {A S : Type 0} (am : List ℕ → A) (bytes : S → List ℕ) (capacity reads : S → ℕ) where
+module _ {A S : Type 0} (am : List ℕ → A) (contents : S → Contents) where
   -- The tree t without its first n bytes: a part of at most one leaf and the tree q. `gone` counts the leaves that are not in q.
   pub record Cleared (B : List ℕ) (rs rs' : List (Record PieceRow (TextValue A))) (f' : Link) (n : ℕ) (r : Result Rest Unsound) (t : Finger PieceRow (TextValue A)) (fs : List ℕ) : Type 0 where
     pub G : Option (Arm PieceRow (TextValue A))
@@ -51,10 +52,10 @@ module _ {A S : Type 0} (am : List ℕ → A) (bytes : S → List ℕ) (capacity
     pub few : length js ≤ 2
 
   pub record FrontDropped (s s' : S) (rs rs' : List (Record PieceRow (TextValue A))) (f f' : Link) (tr : Tree) (n : ℕ) (r : Result Rest Unsound) : Type 0 where
-    pub drops : (t : Finger PieceRow (TextValue A)) (fs : List ℕ) → Bounded bytes capacity s → AllGood (bytes s) (rows t) → Holds (λ _. 1) (text_means am) (bytes_of (bytes s)) rs f tr t fs → Cleared (bytes s) rs rs' f' n r t fs
-    pub few_reads : (t : Finger PieceRow (TextValue A)) (fs : List ℕ) → Bounded bytes capacity s → AllGood (bytes s) (rows t) → Holds (λ _. 1) (text_means am) (bytes_of (bytes s)) rs f tr t fs → reads s' ≤ reads s + 256
-    pub same_bytes : bytes s' ≡ bytes s
-    pub same_capacity : capacity s' ≡ capacity s
+    pub drops : (t : Finger PieceRow (TextValue A)) (fs : List ℕ) → Bounded contents s → AllGood (contents s).bytes (rows t) → Holds (λ _. 1) (text_means am) (bytes_of (contents s).bytes) rs f tr t fs → Cleared (contents s).bytes rs rs' f' n r t fs
+    pub few_reads : (t : Finger PieceRow (TextValue A)) (fs : List ℕ) → Bounded contents s → AllGood (contents s).bytes (rows t) → Holds (λ _. 1) (text_means am) (bytes_of (contents s).bytes) rs f tr t fs → (contents s').reads ≤ (contents s).reads + 256
+    pub same_bytes : (contents s').bytes ≡ (contents s).bytes
+    pub same_capacity : (contents s').capacity ≡ (contents s).capacity
 
   -- The leaf of a spot and the tree q behind it without the n bytes from the spot on.
   pub record Skipped (B : List ℕ) (rs rs' : List (Record PieceRow (TextValue A))) (f' : Link) (spot : Spot) (n : ℕ) (r : Result Dropped Unsound) (q : Finger PieceRow (TextValue A)) (fs : List ℕ) : Type 0 where
@@ -78,16 +79,16 @@ module _ {A S : Type 0} (am : List ℕ → A) (bytes : S → List ℕ) (capacity
     pub few : length js ≤ 4
 
   pub record DroppedFrom (s s' : S) (rs rs' : List (Record PieceRow (TextValue A))) (f f' : Link) (spot : Spot) (n : ℕ) (r : Result Dropped Unsound) : Type 0 where
-    pub drops : (v : TextValue A) (q : Finger PieceRow (TextValue A)) (fs : List ℕ) → Behind am bytes capacity s rs f spot v q fs → spot.into + n ≤ sizes (spot.row ∷ rows q) → Skipped (bytes s) rs rs' f' spot n r q fs
-    pub few_reads : (v : TextValue A) (q : Finger PieceRow (TextValue A)) (fs : List ℕ) → Behind am bytes capacity s rs f spot v q fs → spot.into + n ≤ sizes (spot.row ∷ rows q) → reads s' ≤ reads s + 512
-    pub same_bytes : bytes s' ≡ bytes s
-    pub same_capacity : capacity s' ≡ capacity s
+    pub drops : (v : TextValue A) (q : Finger PieceRow (TextValue A)) (fs : List ℕ) → Behind am contents s rs f spot v q fs → spot.into + n ≤ sizes (spot.row ∷ rows q) → Skipped (contents s).bytes rs rs' f' spot n r q fs
+    pub few_reads : (v : TextValue A) (q : Finger PieceRow (TextValue A)) (fs : List ℕ) → Behind am contents s rs f spot v q fs → spot.into + n ≤ sizes (spot.row ∷ rows q) → (contents s').reads ≤ (contents s).reads + 512
+    pub same_bytes : (contents s').bytes ≡ (contents s).bytes
+    pub same_capacity : (contents s').capacity ≡ (contents s).capacity
 
   -- The text t, which has n pieces, without the bytes from a to b.
   pub record DeletedFrom (s s' : S) (rs rs' : List (Record PieceRow (TextValue A))) (f f' : Link) (tr : Tree) (n a b : ℕ) (r : Result Deleted Unsound) : Type 0 where
-    pub deletes : (t : Finger PieceRow (TextValue A)) (fs : List ℕ) → Bounded bytes capacity s → AllGood (bytes s) (rows t) → Laid (text_mean am (bytes s)) rs f tr t fs → n ≡ length (rows t) → a < b → b ≤ sizes (rows t)
+    pub deletes : (t : Finger PieceRow (TextValue A)) (fs : List ℕ) → Bounded contents s → AllGood (contents s).bytes (rows t) → Laid (text_mean am (contents s).bytes) rs f tr t fs → n ≡ length (rows t) → a < b → b ≤ sizes (rows t)
         → length (before a (map piece_of (rows t)) ++ after b (map piece_of (rows t))) ≤ limit (length rs)
-        → DeleteMade am (bytes s) rs rs' f' r (before a (map piece_of (rows t)) ++ after b (map piece_of (rows t)))
-    pub few_reads : (t : Finger PieceRow (TextValue A)) (fs : List ℕ) → Bounded bytes capacity s → AllGood (bytes s) (rows t) → Laid (text_mean am (bytes s)) rs f tr t fs → a < b → b ≤ sizes (rows t) → reads s' ≤ reads s + 512
-    pub same_bytes : bytes s' ≡ bytes s
-    pub same_capacity : capacity s' ≡ capacity s
+        → DeleteMade am (contents s).bytes rs rs' f' r (before a (map piece_of (rows t)) ++ after b (map piece_of (rows t)))
+    pub few_reads : (t : Finger PieceRow (TextValue A)) (fs : List ℕ) → Bounded contents s → AllGood (contents s).bytes (rows t) → Laid (text_mean am (contents s).bytes) rs f tr t fs → a < b → b ≤ sizes (rows t) → (contents s').reads ≤ (contents s).reads + 512
+    pub same_bytes : (contents s').bytes ≡ (contents s).bytes
+    pub same_capacity : (contents s').capacity ≡ (contents s).capacity

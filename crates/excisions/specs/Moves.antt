@@ -1,7 +1,7 @@
 -- What a call did with slots.
 use Rattle.std.specs.Prelude.{◌≡◌, ℕ, ◌+◌, List, slice_index_or}
 use Rattle.slots.specs.Ghost.{occ_list, none, head_of, Chain, Calm, Off}
-use Rattle.slots.specs.declared.records.Link.{Link}
+use Rattle.slots.specs.Words.{Link}
 use Rattle.slots.specs.declared.records.Record.{Record}
 
 -- The slots that α counts, and the chain fs, became those that β counts, and the chain fs'; js are the new leaves and nodes.

@@ -1,9 +1,10 @@
 -- Where an offset lies in the text's tree.
 use Rattle.std.specs.Prelude.{◌≡◌, ℕ, ◌+◌, ◌<◌, ◌≤◌, ◌⊎◌, List, [], ◌∷◌, ◌++◌, length, Some, None, Ok, Option, Result}
+use Rattle.stores.specs.Stores.{Contents}
 use Rattle.slots.specs.Ghost.{Finger, same, occ_list, head_of, tree_of, rows, occ, At, Fit, Chain}
 use Rattle.slots.specs.Holds.{Holds, most, spare}
 use Rattle.slots.specs.declared.records.Unsound.{Unsound}
-use Rattle.slots.specs.declared.records.Link.{Link}
+use Rattle.slots.specs.Words.{Link}
 use Rattle.slots.specs.declared.records.Tree.{Tree}
 use Rattle.slots.specs.declared.records.Record.{Record}
 use Rattle.slots.specs.declared.records.Record.TheVariants.{Leaf}
@@ -40,15 +41,15 @@ module _ {A : Type 0} (am : List ℕ → A) where
         → ((sizes (rows t) ≤ p) × (r ≡ Ok None) × (rs' ≡ rs) × (f' ≡ f)) ⊎ Opened B rs rs' f' p r t fs
 
   -- The slots hold the leaf of a spot and the tree q behind it, beside the chain fs, each slot at most once.
-  pub record Behind {S : Type 0} (bytes : S → List ℕ) (capacity : S → ℕ) (s : S) (rs : List (Record PieceRow (TextValue A))) (f : Link) (spot : Spot) (v : TextValue A) (q : Finger PieceRow (TextValue A)) (fs : List ℕ) : Type 0 where
-    pub bounded : Bounded bytes capacity s
-    pub good : AllGood (bytes s) (spot.row ∷ rows q)
+  pub record Behind {S : Type 0} (contents : S → Contents) (s : S) (rs : List (Record PieceRow (TextValue A))) (f : Link) (spot : Spot) (v : TextValue A) (q : Finger PieceRow (TextValue A)) (fs : List ℕ) : Type 0 where
+    pub bounded : Bounded contents s
+    pub good : AllGood (contents s).bytes (spot.row ∷ rows q)
     pub into : spot.into < spot.row.length
     pub at : At rs spot.at (Leaf spot.row v)
-    pub value : v ≡ text_mean am (bytes s) (spot.row ∷ [])
+    pub value : v ≡ text_mean am (contents s).bytes (spot.row ∷ [])
     pub tree : tree_of q ≡ spot.right
     pub first : head_of fs ≡ f
-    pub fit : Fit (text_mean am (bytes s)) rs q 0
+    pub fit : Fit (text_mean am (contents s).bytes) rs q 0
     pub chain : Chain rs fs
     pub once : (j : ℕ) → same spot.at j + (occ q j + occ_list fs j) ≤ 1
     pub small : length (rows q) ≤ most

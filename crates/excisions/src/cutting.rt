@@ -31,7 +31,7 @@ pub fn take_from<S: Store, A: Measure<Item = u8>>(
     spot: Spot,
     n: u32,
 ) -> Result<Taken, Unsound>
-    ensures { TakenFrom A.Measure.means S.Store.bytes S.Store.capacity S.Store.reads store.old store.new slots.old slots.new free.old free.new spot n result }
+    ensures { TakenFrom A.Measure.means S.Store.contents store.old store.new slots.old slots.new free.old free.new spot n result }
 {
     let end = spot.into.saturating_add(n);
     if end <= spot.row.length {
@@ -78,29 +78,20 @@ pub fn cut_text<S: Store, A: Measure<Item = u8>>(
     from: u32,
     to: u32,
 ) -> Result<CutText, Unsound>
-    ensures { CutOut A.Measure.means S.Store.bytes S.Store.capacity S.Store.reads store.old store.new slots.old slots.new free.old free.new text from to result }
+    ensures { CutOut A.Measure.means S.Store.contents store.old store.new slots.old slots.new free.old free.new text from to result }
 {
-    let found = open_at::<A>(slots, free, text, from)?;
-    match found {
-        None => Err(Unsound),
-        Some(spot) => {
-            let parts = take_from::<S, A>(slots, free, store, spot, to.saturating_sub(from))?;
-            let some = extend::<PieceRow, TextMeasure<A>>(
-                slots,
-                free,
-                Side::Back,
-                parts.middle,
-                parts.last,
-            )?;
-            let clip = extend::<PieceRow, TextMeasure<A>>(
-                slots,
-                free,
-                Side::Front,
-                some,
-                parts.first,
-            )?;
-            let text = close_up::<A>(slots, free, spot.left, parts.front, parts.back, parts.right)?;
-            Ok(CutText { text, clip })
-        }
-    }
+    let Some(spot) = open_at::<A>(slots, free, text, from)? else {
+        return Err(Unsound);
+    };
+    let parts = take_from::<S, A>(slots, free, store, spot, to.saturating_sub(from))?;
+    let some = extend::<PieceRow, TextMeasure<A>>(
+        slots,
+        free,
+        Side::Back,
+        parts.middle,
+        parts.last,
+    )?;
+    let clip = extend::<PieceRow, TextMeasure<A>>(slots, free, Side::Front, some, parts.first)?;
+    let text = close_up::<A>(slots, free, spot.left, parts.front, parts.back, parts.right)?;
+    Ok(CutText { text, clip })
 }

@@ -7,7 +7,7 @@ use crate::spots::{Spot, open_at};
 use measures::Measure;
 use pieces::head::{TextMeasure, TextRecord};
 use pieces::leaves::keep_ends;
-use release_count::release;
+use release::release;
 use slots::records::{Digit, Link, Tree, Unsound};
 use stores::Store;
 
@@ -27,28 +27,23 @@ pub fn drop_front<S: Store, A: Measure<Item = u8>>(
     tree: Tree,
     n: u32,
 ) -> Result<Rest, Unsound>
-    ensures { FrontDropped A.Measure.means S.Store.bytes S.Store.capacity S.Store.reads store.old store.new slots.old slots.new free.old free.new tree n result }
+    ensures { FrontDropped A.Measure.means S.Store.contents store.old store.new slots.old slots.new free.old free.new tree n result }
 {
-    let found = open_at::<A>(slots, free, tree, n)?;
-    match found {
-        None => {
-            let all = release(slots, free, tree)?;
-            Ok(Rest {
-                back: None,
-                right: Tree::Empty,
-                gone: all,
-            })
-        }
-        Some(spot) => {
-            let ends = keep_ends::<S, TextMeasure<A>>(slots, free, store, spot.at, 0, spot.into)?;
-            let before = release(slots, free, spot.left)?;
-            Ok(Rest {
-                back: ends.back,
-                right: spot.right,
-                gone: before.saturating_add(1),
-            })
-        }
-    }
+    let Some(spot) = open_at::<A>(slots, free, tree, n)? else {
+        let all = release(slots, free, tree)?;
+        return Ok(Rest {
+            back: None,
+            right: Tree::Empty,
+            gone: all,
+        });
+    };
+    let ends = keep_ends::<S, TextMeasure<A>>(slots, free, store, spot.at, 0, spot.into)?;
+    let before = release(slots, free, spot.left)?;
+    Ok(Rest {
+        back: ends.back,
+        right: spot.right,
+        gone: before.saturating_add(1),
+    })
 }
 
 // What is left of a leaf and of the tree behind it.
@@ -66,7 +61,7 @@ pub fn drop_from<S: Store, A: Measure<Item = u8>>(
     spot: Spot,
     n: u32,
 ) -> Result<Dropped, Unsound>
-    ensures { DroppedFrom A.Measure.means S.Store.bytes S.Store.capacity S.Store.reads store.old store.new slots.old slots.new free.old free.new spot n result }
+    ensures { DroppedFrom A.Measure.means S.Store.contents store.old store.new slots.old slots.new free.old free.new spot n result }
 {
     let end = spot.into.saturating_add(n);
     if end <= spot.row.length {
@@ -103,10 +98,7 @@ pub fn drop_from<S: Store, A: Measure<Item = u8>>(
 pub fn one_part(part: Option<Digit>) -> u32
     ensures { result ≡ one_part_of part }
 {
-    match part {
-        None => 0,
-        Some(_) => 1,
-    }
+    u32::from(part.is_some())
 }
 
 // The text's tree, and the number of its pieces.
@@ -126,28 +118,23 @@ pub fn delete_text<S: Store, A: Measure<Item = u8>>(
     from: u32,
     to: u32,
 ) -> Result<Deleted, Unsound>
-    ensures { DeletedFrom A.Measure.means S.Store.bytes S.Store.capacity S.Store.reads store.old store.new slots.old slots.new free.old free.new text pieces from to result }
+    ensures { DeletedFrom A.Measure.means S.Store.contents store.old store.new slots.old slots.new free.old free.new text pieces from to result }
 {
-    let found = open_at::<A>(slots, free, text, from)?;
-    match found {
-        None => Err(Unsound),
-        Some(spot) => {
-            let parts = drop_from::<S, A>(slots, free, store, spot, to.saturating_sub(from))?;
-            let all = close_up::<A>(
-                slots,
-                free,
-                spot.left,
-                parts.front,
-                parts.rest.back,
-                parts.rest.right,
-            )?;
-            let kept = pieces.saturating_sub(parts.rest.gone);
-            Ok(Deleted {
-                text: all,
-                pieces: kept
-                    .saturating_add(one_part(parts.front))
-                    .saturating_add(one_part(parts.rest.back)),
-            })
-        }
-    }
+    let spot = open_at::<A>(slots, free, text, from)?.ok_or(Unsound)?;
+    let parts = drop_from::<S, A>(slots, free, store, spot, to.saturating_sub(from))?;
+    let all = close_up::<A>(
+        slots,
+        free,
+        spot.left,
+        parts.front,
+        parts.rest.back,
+        parts.rest.right,
+    )?;
+    let kept = pieces.saturating_sub(parts.rest.gone);
+    Ok(Deleted {
+        text: all,
+        pieces: kept
+            .saturating_add(one_part(parts.front))
+            .saturating_add(one_part(parts.rest.back)),
+    })
 }

@@ -6,7 +6,7 @@ use measures::Measure;
 use measures::probes::{OnLeft, PastByte};
 use pieces::head::{TextMeasure, TextRecord};
 use pieces::rows::PieceRow;
-use slots::arena::row_at;
+use slots::reading::row_at;
 use slots::records::{Link, Tree, Unsound};
 use split::descent::split;
 
@@ -36,17 +36,15 @@ pub fn open_at<A: Measure<Item = u8>>(
         },
     };
     let found = split::<PieceRow, TextMeasure<A>, AtByte>(slots, free, tree, &probe, &mut place)?;
-    match found {
-        None => Ok(None),
-        Some(halves) => {
-            let row = row_at(slots, halves.at)?;
-            Ok(Some(Spot {
-                left: halves.left,
-                at: halves.at,
-                row,
-                into: p.saturating_sub(place.left.left.bytes),
-                right: halves.right,
-            }))
-        }
-    }
+    let Some(halves) = found else {
+        return Ok(None);
+    };
+    let row = row_at(slots, halves.at)?;
+    Ok(Some(Spot {
+        left: halves.left,
+        at: halves.at,
+        row,
+        into: p.saturating_sub(place.left.left.bytes),
+        right: halves.right,
+    }))
 }

@@ -13,8 +13,8 @@ const LINE: &[u8; 64] = b"if lock(5) until open[2] # a note\nwait \"a\\\"b\" {x1
 
 fn text() -> [u8; 2048] {
     let mut bytes = [0u8; 2048];
-    for i in 0..2048 {
-        bytes[i] = LINE[i % 64];
+    for (i, byte) in bytes.iter_mut().enumerate() {
+        *byte = LINE[i % 64];
     }
     bytes
 }
@@ -39,6 +39,9 @@ fn main(rt: HostRuntime) -> io::Result<()> {
     )?;
     println!(rt;
         "state {}, tokens {}, strays {}, unmet {}",
-        row.state, row.tokens, row.strays, row.unmet
+        row.state.number(),
+        row.tokens,
+        row.strays,
+        row.unmet
     )
 }

@@ -1,10 +1,11 @@
 -- From the doors to the outcome of an edit: what refuses it is what the machine says no to first.
-use Rattle.std.proofs.Common.{◌≡◌, ℕ, ◌+◌, Bool, true, false, cond, ◌⊎◌, List, [], ◌∷◌, ◌++◌, length, Some, None, Ok, Err, Option, Result, sym, refl, ◌∙◌, subst, inl, arith}
+use Rattle.std.proofs.Common.{◌≡◌, ℕ, Bool, true, false, cond, ◌⊎◌, List, [], ◌∷◌, ◌++◌, length, Some, None, Ok, Err, Option, Result, sym, refl, ◌∙◌, subst, inl, arith}
 use Rattle.plain.specs.Lists.{first_no}
 use Rattle.plain.specs.Machine.{Machine, Call, asked, accepted}
 use Rattle.plain.specs.declared.faults.TextFault.{TextFault}
 use Rattle.measures.specs.declared.mark_totals.MarkRow.{MarkRow}
 use Rattle.measures.specs.declared.mark_totals.MarkTotals.{MarkTotals}
+use Rattle.stores.specs.Stores.{Contents}
 use Rattle.slots.specs.Ghost.{rows}
 use Rattle.slots.specs.declared.records.Unsound.{Unsound}
 use Rattle.slots.specs.declared.records.Record.{Record}
@@ -16,7 +17,7 @@ use Rattle.pieces.specs.declared.rows.PieceRow.{PieceRow}
 use Rattle.pieces.specs.declared.head.Head.{Head}
 use Rattle.edits.specs.Doors.{DoorTold}
 use Rattle.edits.proofs.Supplies.{few_most}
-use Rattle.head_edits.specs.Performing.{Kept, Makes, Performs}
+use Rattle.head_edits.specs.Performing.{Makes, Performs}
 use Rattle.head_edits.proofs.Standing.{spelled_by}
 
 -- questions that were asked before others
@@ -50,54 +51,69 @@ module _ {A X : Type 0} {am : List ℕ → A} {B : List ℕ} {rs : List (Record 
   door_tells D = D.tells B K.t K.text.tree K.text.fit K.good (few_most (length (rows K.t)) (length rs) (omega (arith, K.text.few)) K.text.most)
       (length (rows K.k)) K.pieces (omega (arith, K.pieces, K.text.few)) K.text.most
 
-module _ {A S : Type 0} {am : List ℕ → A} {bytes : S → List ℕ} {capacity reads : S → ℕ} {c : Call} {mode mode' : Mode} {s s' : S} {rs rs' : List (Record PieceRow (TextValue A))} {ms ms' : List (Record MarkRow MarkTotals)} {h h' : Head} {r : Result (Unit {0}) TextFault} where
+-- the head that was made, if one was, is kept
+abbrev pub Kept : Result Head Unsound → Head → Result (Unit {0}) TextFault → Type 0
+Kept q h' r = (x : Head) → q ≡ Ok x → (r ≡ Ok tt) × (h' ≡ x)
+
+pub kept : {q : Result Head Unsound} {h : Head} → q ≡ Ok h → Kept q h (Ok tt)
+kept got x is = (refl, ok_same got is)
+
+pub not_kept : {q : Result Head Unsound} {e : Unsound} {h : Head} {r : Result (Unit {0}) TextFault} → q ≡ Err e → Kept q h r
+not_kept bad x is = absurd (ok_err is bad)
+
+module _ {A S : Type 0} {am : List ℕ → A} {contents : S → Contents} {c : Call} {mode mode' : Mode} {s s' : S} {rs rs' : List (Record PieceRow (TextValue A))} {ms ms' : List (Record MarkRow MarkTotals)} {h h' : Head} {r : Result (Unit {0}) TextFault} where
   -- refused: nothing was touched
-  pub edit_refused : ((K : Sound am (bytes s) rs ms h) → ClipIs mode h.clip → (f : TextFault) × (first_no (asked (spelled_by mode (capacity s) K) c) ≡ Some f) × (r ≡ Err f))
-      → Unchanged am bytes capacity reads s s' rs rs' ms ms' h h' → Edits am bytes capacity reads c mode mode' s s' rs rs' ms ms' h h' r
+  pub edit_refused : ((K : Sound am (contents s).bytes rs ms h) → ClipIs mode h.clip → (f : TextFault) × (first_no (asked (spelled_by mode (contents s).capacity K) c) ≡ Some f) × (r ≡ Err f))
+      → Unchanged am contents s s' rs rs' ms ms' h h' → Edits am contents c mode mode' s s' rs rs' ms ms' h h' r
   edit_refused by same = record {
     outcome = λ m K.
         let w = by K.sound K.clipped in
-        subst (λ (m : Machine). Outcome am bytes capacity reads (first_no (asked m c)) s s' rs rs' ms ms' h h' mode' (accepted am m c).0 r) (sym K.machine) (subst (λ (o : Option TextFault). Outcome am bytes capacity reads o s s' rs rs' ms ms' h h' mode' (accepted am (spelled_by mode (capacity s) K.sound) c).0 r) (sym w.1) (w.2, same));
+        subst (λ (m : Machine). Outcome am contents (first_no (asked m c)) s s' rs rs' ms ms' h h' mode' (accepted am m c).0 r) (sym K.machine) (subst (λ (o : Option TextFault). Outcome am contents o s s' rs rs' ms ms' h h' mode' (accepted am (spelled_by mode (contents s).capacity K.sound) c).0 r) (sym w.1) (w.2, same));
     store = inl same.same_bytes;
     same_capacity = same.same_capacity;
   }
 
   -- accepted: what was made is kept
   pub edit_kept : {q : Result Head Unsound}
-      → ((K : Sound am (bytes s) rs ms h) → ClipIs mode h.clip → (first_no (asked (spelled_by mode (capacity s) K) c) ≡ None) × Makes am bytes capacity reads s s' rs rs' ms ms' mode' (accepted am (spelled_by mode (capacity s) K) c).0 q)
-      → Kept q h h' r → (bytes s' ≡ bytes s) ⊎ (bytes s' ≡ bytes s ++ brought c) → capacity s' ≡ capacity s → Edits am bytes capacity reads c mode mode' s s' rs rs' ms ms' h h' r
+      → ((K : Sound am (contents s).bytes rs ms h) → ClipIs mode h.clip → (first_no (asked (spelled_by mode (contents s).capacity K) c) ≡ None) × Makes am contents s s' rs rs' ms ms' mode' (accepted am (spelled_by mode (contents s).capacity K) c).0 q)
+      → Kept q h' r → ((contents s').bytes ≡ (contents s).bytes) ⊎ ((contents s').bytes ≡ (contents s).bytes ++ brought c) → (contents s').capacity ≡ (contents s).capacity → Edits am contents c mode mode' s s' rs rs' ms ms' h h' r
   edit_kept by k store capacity_is = record {
     outcome = λ m K.
         let w = by K.sound K.clipped in
-        let is : (r ≡ Ok tt) × (h' ≡ w.1.h') = subst (λ (q : Result Head Unsound). Kept q h h' r) w.1.ok k in
-        let done : Accepted am bytes capacity reads s s' rs rs' ms ms' h' mode' (accepted am (spelled_by mode (capacity s) K.sound) c).0 =
-        subst (λ (x : Head). Accepted am bytes capacity reads s s' rs rs' ms ms' x mode' (accepted am (spelled_by mode (capacity s) K.sound) c).0) (sym is.1) w.1.done in
-        subst (λ (m : Machine). Outcome am bytes capacity reads (first_no (asked m c)) s s' rs rs' ms ms' h h' mode' (accepted am m c).0 r) (sym K.machine) (subst (λ (o : Option TextFault). Outcome am bytes capacity reads o s s' rs rs' ms ms' h h' mode' (accepted am (spelled_by mode (capacity s) K.sound) c).0 r) (sym w.0) (is.0, done));
+        let is : (r ≡ Ok tt) × (h' ≡ w.1.h') = k w.1.h' w.1.ok in
+        let done : Accepted am contents s s' rs rs' ms ms' h' mode' (accepted am (spelled_by mode (contents s).capacity K.sound) c).0 =
+        subst (λ (x : Head). Accepted am contents s s' rs rs' ms ms' x mode' (accepted am (spelled_by mode (contents s).capacity K.sound) c).0) (sym is.1) w.1.done in
+        subst (λ (m : Machine). Outcome am contents (first_no (asked m c)) s s' rs rs' ms ms' h h' mode' (accepted am m c).0 r) (sym K.machine) (subst (λ (o : Option TextFault). Outcome am contents o s s' rs rs' ms ms' h h' mode' (accepted am (spelled_by mode (contents s).capacity K.sound) c).0 r) (sym w.0) (is.0, done));
     store = store;
     same_capacity = capacity_is;
   }
 
   -- let in by the door, and performed
   pub edit_made : (Given : Machine → Type 0) {q : Result Head Unsound}
-      → ((K : Sound am (bytes s) rs ms h) → ClipIs mode h.clip → (first_no (asked (spelled_by mode (capacity s) K) c) ≡ None) × Given (accepted am (spelled_by mode (capacity s) K) c).0)
-      → Performs am bytes capacity reads c mode mode' Given s s' rs rs' ms ms' h q → Kept q h h' r → Edits am bytes capacity reads c mode mode' s s' rs rs' ms ms' h h' r
+      → ((K : Sound am (contents s).bytes rs ms h) → ClipIs mode h.clip → (first_no (asked (spelled_by mode (contents s).capacity K) c) ≡ None) × Given (accepted am (spelled_by mode (contents s).capacity K) c).0)
+      → Performs am contents c mode mode' Given s s' rs rs' ms ms' h q → Kept q h' r → Edits am contents c mode mode' s s' rs rs' ms ms' h h' r
   edit_made Given by P k = edit_kept
-      (λ K i. ((by K i).0, P.makes (spelled_by mode (capacity s) K) (record { sound = K; clipped = i; machine = refl }) (by K i).0 (by K i).1))
+      (λ K i. ((by K i).0, P.makes (spelled_by mode (contents s).capacity K) (record { sound = K; clipped = i; machine = refl }) (by K i).0 (by K i).1))
       k (inl P.same_bytes) P.same_capacity
 
-module _ {A S : Type 0} {am : List ℕ → A} {bytes : S → List ℕ} {capacity reads : S → ℕ} {c : Call} {mode mode' : Mode} {Given : Machine → Type 0} {s s' : S} {rs rs' : List (Record PieceRow (TextValue A))} {ms ms' : List (Record MarkRow MarkTotals)} {h : Head} {r : Result Head Unsound} where
+module _ {A S : Type 0} {am : List ℕ → A} {contents : S → Contents} {c : Call} {mode mode' : Mode} {Given : Machine → Type 0} {s s' : S} {rs rs' : List (Record PieceRow (TextValue A))} {ms ms' : List (Record MarkRow MarkTotals)} {h : Head} {r : Result Head Unsound} where
   -- what is made of sound memory
-  pub performs_by : ((K : Sound am (bytes s) rs ms h) → ClipIs mode h.clip → first_no (asked (spelled_by mode (capacity s) K) c) ≡ None → Given (accepted am (spelled_by mode (capacity s) K) c).0
-      → Makes am bytes capacity reads s s' rs rs' ms ms' mode' (accepted am (spelled_by mode (capacity s) K) c).0 r)
-      → bytes s' ≡ bytes s → capacity s' ≡ capacity s → Performs am bytes capacity reads c mode mode' Given s s' rs rs' ms ms' h r
+  pub performs_by : ((K : Sound am (contents s).bytes rs ms h) → ClipIs mode h.clip → first_no (asked (spelled_by mode (contents s).capacity K) c) ≡ None → Given (accepted am (spelled_by mode (contents s).capacity K) c).0
+      → Makes am contents s s' rs rs' ms ms' mode' (accepted am (spelled_by mode (contents s).capacity K) c).0 r)
+      → (contents s').bytes ≡ (contents s).bytes → (contents s').capacity ≡ (contents s).capacity → Performs am contents c mode mode' Given s s' rs rs' ms ms' h r
   performs_by by same-b same-c = record {
-    makes = λ m K passes given. subst (λ (m : Machine). Makes am bytes capacity reads s s' rs rs' ms ms' mode' (accepted am m c).0 r) (sym K.machine)
+    makes = λ m K passes given. subst (λ (m : Machine). Makes am contents s s' rs rs' ms ms' mode' (accepted am m c).0 r) (sym K.machine)
         (by K.sound K.clipped (subst (λ (m : Machine). first_no (asked m c) ≡ None) K.machine passes) (subst (λ (m : Machine). Given (accepted am m c).0) K.machine given));
     same_bytes = same-b;
     same_capacity = same-c;
   }
 
 -- refused at the door
-pub edit_shut : {A S : Type 0} {am : List ℕ → A} {bytes : S → List ℕ} {capacity reads : S → ℕ} {c : Call} {mode mode' : Mode} {s : S} {rs : List (Record PieceRow (TextValue A))} {ms : List (Record MarkRow MarkTotals)} {h : Head} {r : Result (Unit {0}) TextFault} {e : TextFault} → r ≡ Err e
-    → ((K : Sound am (bytes s) rs ms h) → ClipIs mode h.clip → first_no (asked (spelled_by mode (capacity s) K) c) ≡ Some e) → Edits am bytes capacity reads c mode mode' s s rs rs ms ms h h r
+pub edit_shut : {A S : Type 0} {am : List ℕ → A} {contents : S → Contents} {c : Call} {mode mode' : Mode} {s : S} {rs : List (Record PieceRow (TextValue A))} {ms : List (Record MarkRow MarkTotals)} {h : Head} {r : Result (Unit {0}) TextFault} {e : TextFault} → r ≡ Err e
+    → ((K : Sound am (contents s).bytes rs ms h) → ClipIs mode h.clip → first_no (asked (spelled_by mode (contents s).capacity K) c) ≡ Some e) → Edits am contents c mode mode' s s rs rs ms ms h h r
 edit_shut {e = e} is by = edit_refused (λ K i. (e, by K i, is)) (record { head = refl; slots = refl; marks = refl; same_bytes = refl; same_capacity = refl; same_reads = refl })
+
+-- no sound memory comes here
+pub edit_barred : {A S : Type 0} {am : List ℕ → A} {contents : S → Contents} {c : Call} {mode mode' : Mode} {s : S} {rs : List (Record PieceRow (TextValue A))} {ms : List (Record MarkRow MarkTotals)} {h : Head} {r : Result (Unit {0}) TextFault}
+    → (Sound am (contents s).bytes rs ms h → ⊥) → Edits am contents c mode mode' s s rs rs ms ms h h r
+edit_barred bar = edit_refused (λ K i. absurd (bar K)) (record { head = refl; slots = refl; marks = refl; same_bytes = refl; same_capacity = refl; same_reads = refl })

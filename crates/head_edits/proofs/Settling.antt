@@ -7,9 +7,10 @@ use Rattle.plain.specs.declared.answers.Mark.{Mark}
 use Rattle.measures.specs.MarkTotals.{placed}
 use Rattle.measures.specs.declared.mark_totals.MarkRow.{MarkRow}
 use Rattle.measures.specs.declared.mark_totals.MarkTotals.{MarkTotals}
+use Rattle.stores.specs.Stores.{Contents}
 use Rattle.slots.specs.Ghost.{Finger, nil, named, occ_list, none, rows, levels, occ, Calm}
 use Rattle.slots.specs.declared.records.Unsound.{Unsound}
-use Rattle.slots.specs.declared.records.Link.{Link}
+use Rattle.slots.specs.Words.{Link}
 use Rattle.slots.specs.declared.records.Tree.{Tree}
 use Rattle.slots.specs.declared.records.Tree.TheVariants.{Empty}
 use Rattle.slots.specs.declared.records.Record.{Record}
@@ -136,14 +137,14 @@ machines : {B B' : List ℕ} {c c' u u' v v' : ℕ} {g g' : List Piece} {k k' : 
 machines a b c d e f g = cc
 
 -- Both slices, with a head over them, spell the machine m'.
-module _ {A S : Type 0} {am : List ℕ → A} {bytes : S → List ℕ} {capacity reads : S → ℕ} {s s' : S} {rs rs' : List (Record PieceRow (TextValue A))} {ms ms' : List (Record MarkRow MarkTotals)} {mode : Mode} {m' : Machine} where
-  pub both_settled : {tr kr ur : Tree} {f' e' : Link} {n c : ℕ} → Ordered 0 (size m') m'.marks → m'.bytes ≡ bytes s' → m'.capacity ≡ capacity s' → m'.text_slots ≡ length rs → m'.mark_slots ≡ length ms
-      → TextSettled am (bytes s') rs rs' f' mode tr kr m'.pieces m'.clip → MarksSettled ms ms' e' ur m'.marks
-      → n ≡ length m'.pieces + length (clipped m') → c ≡ length m'.marks → reads s' ≤ reads s + 512
-      → Accepted am bytes capacity reads s s' rs rs' ms ms' (record { text = tr; clip = kr; free = f'; pieces = n; marks = ur; free_marks = e'; mark_count = c }) mode m'
+module _ {A S : Type 0} {am : List ℕ → A} {contents : S → Contents} {s s' : S} {rs rs' : List (Record PieceRow (TextValue A))} {ms ms' : List (Record MarkRow MarkTotals)} {mode : Mode} {m' : Machine} where
+  pub both_settled : {tr kr ur : Tree} {f' e' : Link} {n c : ℕ} → Ordered 0 (size m') m'.marks → m'.bytes ≡ (contents s').bytes → m'.capacity ≡ (contents s').capacity → m'.text_slots ≡ length rs → m'.mark_slots ≡ length ms
+      → TextSettled am (contents s').bytes rs rs' f' mode tr kr m'.pieces m'.clip → MarksSettled ms ms' e' ur m'.marks
+      → n ≡ length m'.pieces + length (clipped m') → c ≡ length m'.marks → (contents s').reads ≤ (contents s).reads + 512
+      → Accepted am contents s s' rs rs' ms ms' (record { text = tr; clip = kr; free = f'; pieces = n; marks = ur; free_marks = e'; mark_count = c }) mode m'
   both_settled {tr} {kr} {ur} {f'} {e'} {n} {c} in_order is-bytes is-capacity is-slots is-marks T U is-n is_c few =
       let text-is : size m' ≡ sizes (rows T.t) =
-      ap₂ (λ (B : List ℕ) (g : List Piece). length (Rattle.plain.specs.Pieces.spell B g)) is-bytes (sym T.pieces) ∙ spelled_size (bytes s') (rows T.t) T.good in
+      ap₂ (λ (B : List ℕ) (g : List Piece). length (Rattle.plain.specs.Pieces.spell B g)) is-bytes (sym T.pieces) ∙ spelled_size (contents s').bytes (rows T.t) T.good in
       let ordered : Ordered 0 (sizes (rows T.t)) (placed 0 (rows U.u)) =
       subst (λ (k : ℕ). Ordered 0 k (placed 0 (rows U.u))) text-is (subst (Ordered 0 (size m')) (sym U.marks) in_order) in
       record {

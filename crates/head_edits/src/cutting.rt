@@ -5,7 +5,6 @@ ghost use Rattle.pieces.specs.Sound.{whole, held};
 ghost use Rattle.plain.specs.declared.calls.Call.TheVariants.{Cut};
 
 use crate::closing::close_marks;
-use crate::keeping::keep;
 use edits::doors::cut_door;
 use excisions::cutting::cut_text;
 use measures::Measure;
@@ -23,7 +22,7 @@ fn cut_all<S: Store, A: Measure<Item = u8>>(
     from: u32,
     to: u32,
 ) -> Result<Head, Unsound>
-    ensures { Performs A.Measure.means S.Store.bytes S.Store.capacity S.Store.reads (Cut from to) whole held (Counts pieces) store.old store.new slots.old slots.new marks.old marks.new head result }
+    ensures { Performs A.Measure.means S.Store.contents (Cut from to) whole held (Counts pieces) store.old store.new slots.old slots.new marks.old marks.new head result }
 {
     let mut free = head.free;
     let mut free_marks = head.free_marks;
@@ -48,14 +47,9 @@ pub fn cut<S: Store, A: Measure<Item = u8>>(
     from: u32,
     to: u32,
 ) -> Result<(), TextFault>
-    ensures { Edits A.Measure.means S.Store.bytes S.Store.capacity S.Store.reads (Cut from to) whole held store.old store.new slots.old slots.new marks.old marks.new head.old head.new result }
+    ensures { Edits A.Measure.means S.Store.contents (Cut from to) whole held store.old store.new slots.old slots.new marks.old marks.new head.old head.new result }
 {
-    let before = *head;
-    match cut_door::<A>(slots, before.text, before.pieces, from, to) {
-        Err(fault) => Err(fault),
-        Ok(pieces) => {
-            let made = cut_all::<S, A>(slots, marks, store, before, pieces, from, to);
-            keep(head, made)
-        }
-    }
+    let pieces = cut_door::<A>(slots, head.text, head.pieces, from, to)?;
+    *head = cut_all::<S, A>(slots, marks, store, *head, pieces, from, to)?;
+    Ok(())
 }

@@ -5,7 +5,6 @@ ghost use Rattle.pieces.specs.Sound.{whole};
 ghost use Rattle.plain.specs.declared.calls.Call.TheVariants.{Delete};
 
 use crate::closing::close_marks;
-use crate::keeping::keep;
 use edits::doors::delete_door;
 use excisions::deleting::delete_text;
 use measures::Measure;
@@ -22,7 +21,7 @@ fn delete_all<S: Store, A: Measure<Item = u8>>(
     from: u32,
     to: u32,
 ) -> Result<Head, Unsound>
-    ensures { Performs A.Measure.means S.Store.bytes S.Store.capacity S.Store.reads (Delete from to) whole whole Any store.old store.new slots.old slots.new marks.old marks.new head result }
+    ensures { Performs A.Measure.means S.Store.contents (Delete from to) whole whole Any store.old store.new slots.old slots.new marks.old marks.new head result }
 {
     let mut free = head.free;
     let mut free_marks = head.free_marks;
@@ -30,12 +29,12 @@ fn delete_all<S: Store, A: Measure<Item = u8>>(
     let closed = close_marks(marks, &mut free_marks, head.marks, from, to)?;
     Ok(Head {
         text: left.text,
-        clip: head.clip,
         free,
         pieces: left.pieces,
         marks: closed.tree,
         free_marks,
         mark_count: closed.count,
+        ..head
     })
 }
 
@@ -47,14 +46,9 @@ pub fn delete<S: Store, A: Measure<Item = u8>>(
     from: u32,
     to: u32,
 ) -> Result<(), TextFault>
-    ensures { Edits A.Measure.means S.Store.bytes S.Store.capacity S.Store.reads (Delete from to) whole whole store.old store.new slots.old slots.new marks.old marks.new head.old head.new result }
+    ensures { Edits A.Measure.means S.Store.contents (Delete from to) whole whole store.old store.new slots.old slots.new marks.old marks.new head.old head.new result }
 {
-    let before = *head;
-    match delete_door::<A>(slots, before.text, before.pieces, from, to) {
-        Err(fault) => Err(fault),
-        Ok(_) => {
-            let made = delete_all::<S, A>(slots, marks, store, before, from, to);
-            keep(head, made)
-        }
-    }
+    delete_door::<A>(slots, head.text, head.pieces, from, to)?;
+    *head = delete_all::<S, A>(slots, marks, store, *head, from, to)?;
+    Ok(())
 }

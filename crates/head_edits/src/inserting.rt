@@ -4,7 +4,6 @@ ghost use Rattle.pieces.specs.Edited.{Edits};
 ghost use Rattle.pieces.specs.Sound.{whole};
 ghost use Rattle.plain.specs.declared.calls.Call.TheVariants.{Insert};
 
-use crate::keeping::keep;
 use edits::doors::insert_door;
 use edits::inserting::put_text;
 use mark_moves::growing::grow_marks;
@@ -30,7 +29,7 @@ fn put_all<S: Store, A: Measure<Item = u8>>(
     address: u32,
     bytes: &[u8],
 ) -> Result<Head, Unsound>
-    ensures { Inserts A.Measure.means S.Store.bytes S.Store.capacity S.Store.reads at bytes.now pieces address store.old store.new slots.old slots.new marks.old marks.new head result }
+    ensures { Inserts A.Measure.means S.Store.contents at bytes.now pieces address store.old store.new slots.old slots.new marks.old marks.new head result }
 {
     let length = bytes.len().min(MOST_BYTES) as u32;
     let row = PieceRow { address, length };
@@ -41,12 +40,11 @@ fn put_all<S: Store, A: Measure<Item = u8>>(
     let moved = grow_marks(marks, &mut free_marks, head.marks, at, length)?;
     Ok(Head {
         text,
-        clip: head.clip,
         free,
         pieces,
         marks: moved,
         free_marks,
-        mark_count: head.mark_count,
+        ..head
     })
 }
 
@@ -58,17 +56,10 @@ pub fn insert<S: Store, A: Measure<Item = u8>>(
     at: u32,
     bytes: &[u8],
 ) -> Result<(), TextFault>
-    ensures { Edits A.Measure.means S.Store.bytes S.Store.capacity S.Store.reads (Insert at bytes.now) whole whole store.old store.new slots.old slots.new marks.old marks.new head.old head.new result }
+    ensures { Edits A.Measure.means S.Store.contents (Insert at bytes.now) whole whole store.old store.new slots.old slots.new marks.old marks.new head.old head.new result }
 {
-    let before = *head;
-    match insert_door::<A>(slots, before.text, before.pieces, at, bytes.len()) {
-        Err(fault) => Err(fault),
-        Ok(pieces) => match store.append(bytes) {
-            Err(full) => Err(TextFault::Store(full)),
-            Ok(address) => {
-                let made = put_all::<S, A>(slots, marks, store, before, pieces, at, address, bytes);
-                keep(head, made)
-            }
-        },
-    }
+    let pieces = insert_door::<A>(slots, head.text, head.pieces, at, bytes.len())?;
+    let address = store.append(bytes)?;
+    *head = put_all::<S, A>(slots, marks, store, *head, pieces, at, address, bytes)?;
+    Ok(())
 }

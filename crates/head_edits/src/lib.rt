@@ -6,6 +6,5 @@ pub mod cutting;
 pub mod deleting;
 pub mod discarding;
 pub mod inserting;
-mod keeping;
 pub mod marking;
 pub mod pasting;

@@ -4,7 +4,6 @@ ghost use Rattle.pieces.specs.Edited.{Edits};
 ghost use Rattle.pieces.specs.Sound.{whole, held};
 ghost use Rattle.plain.specs.declared.calls.Call.TheVariants.{Paste};
 
-use crate::keeping::keep;
 use edits::doors::{paste_door, size_of};
 use edits::pasting::paste_text;
 use mark_moves::growing::grow_marks;
@@ -22,7 +21,7 @@ fn paste_all<S: Store, A: Measure<Item = u8>>(
     pieces: u32,
     at: u32,
 ) -> Result<Head, Unsound>
-    ensures { Performs A.Measure.means S.Store.bytes S.Store.capacity S.Store.reads (Paste at) held whole (Counts pieces) store.old store.new slots.old slots.new marks.old marks.new head result }
+    ensures { Performs A.Measure.means S.Store.contents (Paste at) held whole (Counts pieces) store.old store.new slots.old slots.new marks.old marks.new head result }
 {
     let length = size_of::<A>(slots, head.clip)?;
     let mut free = head.free;
@@ -36,7 +35,7 @@ fn paste_all<S: Store, A: Measure<Item = u8>>(
         pieces,
         marks: moved,
         free_marks,
-        mark_count: head.mark_count,
+        ..head
     })
 }
 
@@ -47,14 +46,9 @@ pub fn paste<S: Store, A: Measure<Item = u8>>(
     store: &mut S,
     at: u32,
 ) -> Result<(), TextFault>
-    ensures { Edits A.Measure.means S.Store.bytes S.Store.capacity S.Store.reads (Paste at) held whole store.old store.new slots.old slots.new marks.old marks.new head.old head.new result }
+    ensures { Edits A.Measure.means S.Store.contents (Paste at) held whole store.old store.new slots.old slots.new marks.old marks.new head.old head.new result }
 {
-    let before = *head;
-    match paste_door::<A>(slots, before.text, before.pieces, at) {
-        Err(fault) => Err(fault),
-        Ok(pieces) => {
-            let made = paste_all::<S, A>(slots, marks, store, before, pieces, at);
-            keep(head, made)
-        }
-    }
+    let pieces = paste_door::<A>(slots, head.text, head.pieces, at)?;
+    *head = paste_all::<S, A>(slots, marks, store, *head, pieces, at)?;
+    Ok(())
 }

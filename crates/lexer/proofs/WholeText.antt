@@ -10,6 +10,7 @@ use Rattle.measures.specs.Totals.{totals}
 use Rattle.measures.specs.declared.totals.Totals.{Totals}
 use Rattle.measures.specs.Counts.{count_length}
 use Rattle.lexer.specs.Reading.{beginnings, read_from, Whole}
+use Rattle.lexer.specs.States.{end_read}
 use Rattle.lexer.specs.Summing.{summed}
 use Rattle.lexer.specs.declared.tokens.TokenRow.{TokenRow}
 
@@ -28,7 +29,7 @@ all_tokens (b ∷ bs) = sym (tokens_length (b ∷ bs) (step 0 b).0 1 0 1 bs)
 
 pub whole_read : (bs : List ℕ) → Whole bs (read_from 0 bs)
 unfolding read_from
-whole_read bs = record { end = refl; begun = all_tokens bs; stray = refl; left = refl }
+whole_read bs = record { end = end_read 0 bs (omega arith); begun = all_tokens bs; stray = refl; left = refl }
 
 abbrev sums : ℕ → ℕ → ℕ → ℕ → ℕ → Summary
 sums n l t s u = record { bytes = n; lines = l; tokens = t; strays = s; unmet = u }

@@ -8,20 +8,23 @@ use Rattle.plain.specs.Tokens.{step, end_state}
 use Rattle.plain.specs.Brackets.{unmet, brackets_from, is_stray, is_unmet, waiting, closed, settled}
 use Rattle.measures.specs.Counts.{count_append}
 use Rattle.measures.proofs.Folds.{folded_append}
+use Rattle.lexer.specs.Numbers.{number_of, state_of, state_number}
+use Rattle.lexer.specs.States.{step_at}
 use Rattle.lexer.specs.Reading.{beginnings, read_from}
+use Rattle.lexer.specs.declared.states.State.{State}
 use Rattle.lexer.specs.declared.tokens.TokenRow.{TokenRow}
 
-abbrev pub make : ℕ → ℕ → ℕ → ℕ → TokenRow
+abbrev pub make : State → ℕ → ℕ → ℕ → TokenRow
 make a b c d = record { state = a; tokens = b; strays = c; unmet = d }
 
-pub make_eq : {a b c d a' b' c' d' : ℕ} → a ≡ a' → b ≡ b' → c ≡ c' → d ≡ d' → make a b c d ≡ make a' b' c' d'
+pub make_eq : {a a' : State} {b c d b' c' d' : ℕ} → a ≡ a' → b ≡ b' → c ≡ c' → d ≡ d' → make a b c d ≡ make a' b' c' d'
 make_eq e f g h = cc
 
 -- one byte more
 abbrev pub stepped : TokenRow → ℕ → TokenRow
 stepped r b =
-    let n = step r.state b in
-    make n.0 (r.tokens + cond n.1 1 0)
+    let n = step (number_of r.state) b in
+    make (state_of n.0) (r.tokens + cond n.1 1 0)
     (r.strays + cond (n.0 == 7) (1 - r.unmet) 0)
     (cond (n.0 == 7) (r.unmet - 1) (cond (n.0 == 6) (r.unmet + 1) r.unmet))
 
@@ -60,21 +63,30 @@ waiting_length n i os = by (n == 7) (n == 6) os (λ p q. omega (arith, eqb-true 
     by false true os apart = omega arith
     by false false os apart = refl
 
-read_from_lem : (s t a i : ℕ) (os bs : List ℕ) → fold stepped (make s t a (length os)) bs ≡ make (end_state s bs) (t + beginnings s bs) (a + count is_stray (brackets_from s i os bs)) (count is_unmet (brackets_from s i os bs))
+-- the row after a step that is given
+abbrev taken : ℕ → ℕ → ℕ → ℕ × Bool → TokenRow
+taken t a u n =
+    make (state_of n.0) (t + cond n.1 1 0) (a + cond (n.0 == 7) (1 - u) 0) (cond (n.0 == 7) (u - 1) (cond (n.0 == 6) (u + 1) u))
+
+read_from_lem : (s t a i : ℕ) (os bs : List ℕ) → fold stepped (make (state_of s) t a (length os)) bs ≡ make (state_of (end_state s bs)) (t + beginnings s bs) (a + count is_stray (brackets_from s i os bs)) (count is_unmet (brackets_from s i os bs))
 read_from_lem s t a i os [] = make_eq refl (omega arith) (omega (arith, no_strays os)) (sym (all_unmet os))
 read_from_lem s t a i os (b ∷ bs) =
     let n = (step s b).0 in
     let t' = t + cond (step s b).1 1 0 in
     let a' = a + cond (n == 7) (1 - length os) 0 in
     let rest = brackets_from n (suc i) (waiting n i os) bs in
-    ap (λ u. fold stepped (make n t' a' u) bs) (waiting_length n i os)
+    ap (λ (p : ℕ × Bool). fold stepped (taken t a (length os) p) bs) (step_at s b)
+    ∙ ap (λ u. fold stepped (make (state_of n) t' a' u) bs) (waiting_length n i os)
     ∙ read_from_lem n t' a' (suc i) (waiting n i os) bs
     ∙ make_eq refl (omega arith)
     (omega (arith, count_append is_stray (settled n i os) rest, settled_strays n i os))
     (omega (arith, count_append is_unmet (settled n i os) rest, settled_unmet n i os))
 
 abbrev pub start : ℕ → TokenRow
-start s = make s 0 0 0
+start s = make (state_of s) 0 0 0
+
+pub start_at : (s : State) → start (number_of s) ≡ make s 0 0 0
+start_at s = make_eq (state_number s) refl refl refl
 
 pub read_folded : (s : ℕ) (bs : List ℕ) → read_from s bs ≡ fold stepped (start s) bs
 unfolding read_from

@@ -1,8 +1,10 @@
 -- There are 13 states: no list leads out of them.
-use Rattle.std.specs.Prelude.{ℕ, ◌≤◌, Bool, true, false, cond, ◌&&◌, ◌||◌, List, [], ◌∷◌, ◌==◌}
-use Rattle.std.proofs.Common.{arith}
+use Rattle.std.specs.Prelude.{◌≡◌, ℕ, ◌<◌, ◌≤◌, min, Bool, true, false, cond, ◌&&◌, ◌||◌, List, [], ◌∷◌, ◌==◌}
+use Rattle.std.proofs.Common.{sym, ap, ◌∙◌, ⊎_elim, arith}
+use Rattle.std.proofs.lemmas.Bool.{cases_lt, ne_eqb}
 use Rattle.plain.specs.Lists.{among}
 use Rattle.plain.specs.Tokens.{letter, digit, white, feed, quote, escape, hash, left, right, symbol, stays, begun, step, end_state}
+use Rattle.lexer.specs.Numbers.{number_of, state_of, number_state}
 use Rattle.lexer.specs.Reading.{read_from}
 
 low : (c : Bool) (m n : ℕ) → m ≤ 12 → n ≤ 12 → cond c m n ≤ 12
@@ -21,10 +23,43 @@ step_bound : (s b : ℕ) → s ≤ 12 → (step s b).0 ≤ 12
 step_bound s b h =
     low_state (among (8 ∷ 9 ∷ 11 ∷ []) s && feed b) (2, true) _ (omega arith) (low_state (s == 8 && quote b) (10, false) _ (omega arith) (low_state (s == 8 && escape b) (9, false) _ (omega arith) (low_state (s == 8 || s == 9) (8, false) _ (omega arith) (low_state (s == 11) (11, false) _ (omega arith) (low_state (stays s b) (s, false) _ h (begun_bound b))))))
 
-end_bound : (s : ℕ) (bs : List ℕ) → s ≤ 12 → end_state s bs ≤ 12
+pub end_bound : (s : ℕ) (bs : List ℕ) → s ≤ 12 → end_state s bs ≤ 12
 end_bound s [] h = h
 end_bound s (b ∷ bs) h = end_bound (step s b).0 bs (step_bound s b h)
 
-pub state_bound : (s : ℕ) (bs : List ℕ) → s ≤ 12 → (read_from s bs).state ≤ 12
+-- the state at the end of a list, by its number
+pub end_read : (s : ℕ) (bs : List ℕ) → s ≤ 12 → number_of (read_from s bs).state ≡ end_state s bs
 unfolding read_from
-state_bound s bs h = end_bound s bs h
+end_read s bs h = number_state (end_state s bs) ∙ low_same (end_state s bs) (end_bound s bs h)
+  where
+    low_same : (n : ℕ) → n ≤ 12 → min n 12 ≡ n
+    low_same n h = omega arith
+
+-- What is no state reads on as the last one does.
+step_past : (n b : ℕ) → 12 < n → step n b ≡ (begun b, true)
+step_past n b h =
+    let e1 : (8 == n) ≡ false = ne_eqb 8 n (λ e. omega arith) in
+    let e2 : (9 == n) ≡ false = ne_eqb 9 n (λ e. omega arith) in
+    let e3 : (11 == n) ≡ false = ne_eqb 11 n (λ e. omega arith) in
+    let e4 : (n == 8) ≡ false = ne_eqb n 8 (λ e. omega arith) in
+    let e5 : (n == 9) ≡ false = ne_eqb n 9 (λ e. omega arith) in
+    let e6 : (n == 11) ≡ false = ne_eqb n 11 (λ e. omega arith) in
+    let e7 : (n == 1) ≡ false = ne_eqb n 1 (λ e. omega arith) in
+    let e8 : (n == 3) ≡ false = ne_eqb n 3 (λ e. omega arith) in
+    let e9 : (n == 4) ≡ false = ne_eqb n 4 (λ e. omega arith) in
+    simp (e1, e2, e3, e4, e5, e6, e7, e8, e9)
+
+pub step_at : (n b : ℕ) → step (number_of (state_of n)) b ≡ step n b
+step_at n b = ap (λ k. step k b) (number_state n) ∙ ⊎_elim low high (cases_lt n 13)
+  where
+    same : (n : ℕ) → n ≤ 12 → min n 12 ≡ n
+    same n h = omega arith
+
+    last : (n : ℕ) → 12 ≤ n → min n 12 ≡ 12
+    last n h = omega arith
+
+    low : n < 13 → step (min n 12) b ≡ step n b
+    low h = ap (λ k. step k b) (same n (omega arith))
+
+    high : 13 ≤ n → step (min n 12) b ≡ step n b
+    high h = ap (λ k. step k b) (last n (omega arith)) ∙ sym (step_past n b (omega arith))

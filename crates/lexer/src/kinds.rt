@@ -1,30 +1,33 @@
 // What a token is called.
 ghost use Rattle.std.specs.Prelude.{◌≡◌};
 ghost use Rattle.plain.specs.Lists.{same};
+ghost use Rattle.lexer.specs.Numbers.{number_of};
 ghost use Rattle.plain.specs.Tokens.{name_of, is_key, kind_of};
 
+use crate::states::State;
 use plain::answers::Kind;
 
 // The kind of a token that ends in a state, unless it is a key.
-fn name_of(state: u8) -> Kind
-    ensures { result ≡ name_of state }
+fn name_of(state: State) -> Kind
+    ensures { result ≡ name_of (number_of state) }
 {
     match state {
-        0 => Kind::Start,
-        1 => Kind::Blank,
-        2 => Kind::Line,
-        3 => Kind::Word,
-        4 => Kind::Number,
-        5 => Kind::Sign,
-        6 => Kind::Open,
-        7 => Kind::Close,
-        8 | 9 => Kind::Unfinished,
-        10 => Kind::String,
-        11 => Kind::Comment,
-        _ => Kind::Bad,
+        State::Start => Kind::Start,
+        State::Blank => Kind::Blank,
+        State::Line => Kind::Line,
+        State::Word => Kind::Word,
+        State::Number => Kind::Number,
+        State::Sign => Kind::Sign,
+        State::Open => Kind::Open,
+        State::Close => Kind::Close,
+        State::Quoted | State::Escaped => Kind::Unfinished,
+        State::String => Kind::String,
+        State::Comment => Kind::Comment,
+        State::Bad => Kind::Bad,
     }
 }
 
+// One name for `==` on bytes: as a `match` on the six words, `is_key` was not proved.
 fn reads(word: &[u8], key: &[u8]) -> bool
     ensures { result ≡ same word.now key.now }
 {
@@ -43,10 +46,10 @@ pub fn is_key(word: &[u8]) -> bool
 }
 
 // The kind of a token with these bytes that ends in a state.
-pub fn kind_of(state: u8, bytes: &[u8]) -> Kind
-    ensures { result ≡ kind_of state bytes.now }
+pub fn kind_of(state: State, bytes: &[u8]) -> Kind
+    ensures { result ≡ kind_of (number_of state) bytes.now }
 {
-    if state == 3 && is_key(bytes) {
+    if state == State::Word && is_key(bytes) {
         Kind::Key
     } else {
         name_of(state)

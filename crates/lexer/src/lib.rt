@@ -4,5 +4,6 @@
 pub mod kinds;
 pub mod probes;
 pub mod reading;
+pub mod states;
 pub mod summing;
 pub mod tokens;

@@ -1,82 +1,82 @@
-// The reading of one byte. States are numbers, 0 to 12, since they number the rows of a value.
-ghost use Rattle.std.specs.Prelude.{◌≡◌};
+// The reading of one byte.
+ghost use Rattle.std.specs.Prelude.{◌≡◌, true, false};
 ghost use Rattle.plain.specs.Tokens.{begun as begunBy, stays as staysBy, step as stepBy};
+ghost use Rattle.lexer.specs.Numbers.{number_of, state_of};
 
-// The state after a byte, and whether the byte begins a token.
+use crate::states::State;
+
+// The state after a byte, and whether the byte begins a token or goes on with the one before it. An enum of the two would
+// hold a state either way, and each reader of it would take both apart.
 #[derive(Clone, Copy)]
 pub struct Next {
-    pub state: u8,
+    pub state: State,
     pub begins: bool,
 }
 
+impl Next {
+    fn begin(state: State) -> Next
+        ensures state { result.state ≡ state }
+        ensures begins { result.begins ≡ true }
+    {
+        Next {
+            state,
+            begins: true,
+        }
+    }
+
+    fn go_on(state: State) -> Next
+        ensures state { result.state ≡ state }
+        ensures begins { result.begins ≡ false }
+    {
+        Next {
+            state,
+            begins: false,
+        }
+    }
+}
+
 // Where a byte leads that begins a token.
-fn begun(byte: u8) -> u8
-    ensures { result ≡ begunBy byte }
+fn begun(byte: u8) -> State
+    ensures state { result ≡ state_of (begunBy byte) }
+    ensures number { number_of result ≡ begunBy byte }
 {
     match byte {
-        b'A'..=b'Z' | b'a'..=b'z' | b'_' => 3,
-        b'0'..=b'9' => 4,
-        b' ' | b'\t' | b'\r' => 1,
-        b'\n' => 2,
-        b'"' => 8,
-        b'#' => 11,
-        b'(' | b'[' | b'{' => 6,
-        b')' | b']' | b'}' => 7,
-        b'!' | b'&' | b'*'..=b'/' | b':'..=b'>' | b'|' => 5,
-        _ => 12,
+        b'A'..=b'Z' | b'a'..=b'z' | b'_' => State::Word,
+        b'0'..=b'9' => State::Number,
+        b' ' | b'\t' | b'\r' => State::Blank,
+        b'\n' => State::Line,
+        b'"' => State::Quoted,
+        b'#' => State::Comment,
+        b'(' | b'[' | b'{' => State::Open,
+        b')' | b']' | b'}' => State::Close,
+        b'!' | b'&' | b'*'..=b'/' | b':'..=b'>' | b'|' => State::Sign,
+        _ => State::Bad,
     }
 }
 
 // Whether a byte goes on with the blank, the word or the number before it.
-fn stays(state: u8, byte: u8) -> bool
-    ensures { result ≡ staysBy state byte }
+fn stays(state: State, byte: u8) -> bool
+    ensures { result ≡ staysBy (number_of state) byte }
 {
-    let leads = begun(byte);
-    match state {
-        1 => leads == 1,
-        3 => leads == 3 || leads == 4,
-        4 => leads == 4,
+    match (state, begun(byte)) {
+        (State::Blank, State::Blank)
+        | (State::Word, State::Word | State::Number)
+        | (State::Number, State::Number) => true,
         _ => false,
     }
 }
 
-pub fn step(state: u8, byte: u8) -> Next
-    ensures state { result.state ≡ (stepBy state byte).0 }
-    ensures begins { result.begins ≡ (stepBy state byte).1 }
+pub fn step(state: State, byte: u8) -> Next
+    ensures state { number_of result.state ≡ (stepBy (number_of state) byte).0 }
+    ensures begins { result.begins ≡ (stepBy (number_of state) byte).1 }
 {
     match (state, byte) {
-        (8 | 9 | 11, b'\n') => Next {
-            state: 2,
-            begins: true,
-        },
-        (8, b'"') => Next {
-            state: 10,
-            begins: false,
-        },
-        (8, b'\\') => Next {
-            state: 9,
-            begins: false,
-        },
-        (8 | 9, _) => Next {
-            state: 8,
-            begins: false,
-        },
-        (11, _) => Next {
-            state: 11,
-            begins: false,
-        },
-        _ => {
-            if stays(state, byte) {
-                Next {
-                    state,
-                    begins: false,
-                }
-            } else {
-                Next {
-                    state: begun(byte),
-                    begins: true,
-                }
-            }
-        }
+        (State::Quoted | State::Escaped | State::Comment, b'\n') => Next::begin(State::Line),
+        (State::Quoted, b'"') => Next::go_on(State::String),
+        (State::Quoted, b'\\') => Next::go_on(State::Escaped),
+        (State::Quoted | State::Escaped, _) => Next::go_on(State::Quoted),
+        (State::Comment, _) => Next::go_on(State::Comment),
+        _ if stays(state, byte) => Next::go_on(state),
+        _ => Next::begin(begun(byte)),
     }
 }

@@ -1,16 +1,18 @@
 // The token measure: a list of bytes may begin in any state, so it is read from each.
 ghost use Rattle.std.specs.Prelude.{◌≡◌, ℕ, ◌<◌, ◌≤◌, List, [], ◌∷◌, ◌++◌, length, Decides};
 ghost use Rattle.measures.specs.Law.{heaviest};
+ghost use Rattle.lexer.specs.Numbers.{number_of};
 ghost use Rattle.lexer.specs.Reading.{read_from, reading, row_at, Whole};
 
 use crate::reading::step;
+use crate::states::State;
 use measures::Measure;
 
 // A list read from one state: the state at its end, the tokens begun in it,
 // the closes that have no open in it and the opens that have no close in it.
-#[derive(Clone, Copy)]
+#[derive(Clone, Copy, PartialEq, Eq)]
 pub struct TokenRow {
-    pub state: u8,
+    pub state: State,
     pub tokens: u32,
     pub strays: u32,
     pub unmet: u32,
@@ -20,8 +22,9 @@ pub struct TokenRow {
 pub type Rows = [TokenRow; 13];
 
 impl TokenRow {
-    pub fn start(state: u8) -> TokenRow
-        ensures { result ≡ read_from state [] }
+    #[tactic(auto, using(crate::specs::RowSteps::read_none, crate::specs::RowSteps::start_at))]
+    pub fn start(state: State) -> TokenRow
+        ensures { result ≡ read_from (number_of state) [] }
     {
         TokenRow {
             state,
@@ -37,9 +40,9 @@ impl TokenRow {
     {
         let next = step(self.state, byte);
         let (strays, unmet) = match next.state {
-            6 => (self.strays, self.unmet.saturating_add(1)),
-            7 if self.unmet == 0 => (self.strays.saturating_add(1), 0),
-            7 => (self.strays, self.unmet - 1),
+            State::Open => (self.strays, self.unmet.saturating_add(1)),
+            State::Close if self.unmet == 0 => (self.strays.saturating_add(1), 0),
+            State::Close => (self.strays, self.unmet - 1),
             _ => (self.strays, self.unmet),
         };
         TokenRow {
@@ -51,8 +54,9 @@ impl TokenRow {
     }
 
     // The list and a second one, whose row is that of the state at the end of the first.
+    #[tactic(auto, using(crate::specs::RowJoins::and_row_lem))]
     fn and_row(&self, row: &TokenRow) -> TokenRow
-        ensures { (s : ℕ) (xs ys : List ℕ) → length (xs ++ ys) ≤ heaviest → self.now ≡ read_from s xs → row.now ≡ read_from self.now.state ys → result ≡ read_from s (xs ++ ys) }
+        ensures { (s : ℕ) (xs ys : List ℕ) → length (xs ++ ys) ≤ heaviest → self.now ≡ read_from s xs → row.now ≡ read_from (number_of self.now.state) ys → result ≡ read_from s (xs ++ ys) }
     {
         // Closes of the second list meet opens of the first.
         let strays = row.strays.saturating_sub(self.unmet);
@@ -64,22 +68,12 @@ impl TokenRow {
             unmet: row.unmet.saturating_add(unmet),
         }
     }
-
-    fn is(&self, row: &TokenRow) -> bool
-        ensures { Decides result (self.now ≡ row.now) }
-    {
-        self.state == row.state
-            && self.tokens == row.tokens
-            && self.strays == row.strays
-            && self.unmet == row.unmet
-    }
 }
 
-// The row of a state; for a number that is no state, of the last one.
-pub fn row_of(rows: &Rows, state: u8) -> TokenRow
-    ensures { result ≡ row_at rows.now state }
+pub fn row_of(rows: &Rows, state: State) -> TokenRow
+    ensures { result ≡ row_at rows.now (number_of state) }
 {
-    rows[(state as usize).min(12)]
+    rows[state.number()]
 }
 
 // What the value of a whole text says of it.
@@ -87,7 +81,7 @@ pub fn whole(rows: &Rows) -> TokenRow
     ensures value { result ≡ row_at rows.now 0 }
     ensures law { (bs : List ℕ) → rows.now ≡ reading bs → Whole bs result }
 {
-    rows[0]
+    row_of(rows, State::Start)
 }
 
 pub struct Tokens;
@@ -100,11 +94,7 @@ impl Measure for Tokens {
     ghost means = { reading };
 
     fn empty() -> Rows {
-        let mut rows = [TokenRow::start(0); 13];
-        for s in 0..13 {
-            rows[s] = TokenRow::start(s as u8);
-        }
-        rows
+        State::ALL.map(TokenRow::start)
     }
 
     fn one(item: u8) -> Rows {
@@ -115,26 +105,20 @@ impl Measure for Tokens {
 
     fn join(a: &Rows, b: &Rows) -> Rows {
         let mut rows = *a;
-        for s in 0..13 {
-            let row = a[s];
-            rows[s] = row.and_row(&row_of(b, row.state));
+        for row in rows.iter_mut() {
+            *row = row.and_row(&row_of(b, row.state));
         }
         rows
     }
 
     fn same(a: &Rows, b: &Rows) -> bool {
-        for s in 0..13 {
-            if !a[s].is(&b[s]) {
-                return false;
-            }
-        }
-        true
+        a == b
     }
 
     // Thirteen steps, where a join would make two rows and join them for each state.
     fn add(a: &mut Rows, item: u8) {
-        for s in 0..13 {
-            a[s] = a[s].and_byte(item);
+        for row in a.iter_mut() {
+            *row = row.and_byte(item);
         }
     }
 }

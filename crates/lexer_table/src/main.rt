@@ -3,6 +3,7 @@
 #![tactic(auto)]
 
 use lexer::reading::step;
+use lexer::states::State;
 use std::io;
 
 fn sign(begins: bool) -> char {
@@ -10,12 +11,12 @@ fn sign(begins: bool) -> char {
 }
 
 fn main(rt: HostRuntime) -> io::Result<()> {
-    for state in 0..13u8 {
+    for state in State::ALL {
         for row in 0..16u8 {
-            print!(rt; "{state:2} {row:x}0")?;
+            print!(rt; "{:2} {row:x}0", state.number())?;
             for column in 0..16u8 {
                 let next = step(state, row * 16 + column);
-                print!(rt; " {}{:<2}", sign(next.begins), next.state)?;
+                print!(rt; " {}{:<2}", sign(next.begins), next.state.number())?;
             }
             println!(rt; "|")?;
         }

@@ -1,5 +1,5 @@
 -- Lists that grow at the end, and what is left of them where there is no memory.
-use Rattle.std.proofs.Common.{◌≡◌, ℕ, ◌<◌, ◌≤◌, true, cond, ◌⊎◌, List, ◌++◌, length, take, is_ok, is_err, Ok, Err, Result, sym, refl, ap, ◌∙◌, inl, inr, arith}
+use Rattle.std.proofs.Common.{◌≡◌, ℕ, ◌<◌, ◌≤◌, true, ◌⊎◌, List, ◌++◌, length, take, is_err, Ok, Err, Result, sym, refl, ap, ◌∙◌, inl, inr, arith}
 use Rattle.std.proofs.lemmas.List.{take_at, take-take, take_all}
 use Rattle.std.proofs.lemmas.Bool.{cases_lt}
 use Rattle.lines.specs.Columns.{Appends}
@@ -30,26 +30,3 @@ module _ {T E : Type 0} (r : Result T E) (old more new : List ℕ) where
       go : (r : Result T E) → is_err r ≡ true → Kept old new → Appends r old more new
       go (Ok x) e k = let z : ◌≡◌ {A = ℕ} 0 1 = cc in absurd (omega arith)
       go (Err x) e k = k
-
-  -- from the clause of `push` and `extend_from_slice`
-  pub appends_from : new ≡ cond (is_ok r) (old ++ more) old → Appends r old more new
-  appends_from = go r
-    where
-      go : (r : Result T E) → new ≡ cond (is_ok r) (old ++ more) old → Appends r old more new
-      go (Ok x) e = e
-      go (Err x) e = kept_same old new e
-
-  pub appends_kept : Appends r old more new → Kept old new
-  appends_kept = go r
-    where
-      go : (r : Result T E) → Appends r old more new → Kept old new
-      go (Ok x) e = kept_more old more new e
-      go (Err x) k = k
-
-  -- with the list cut back to its old length at an error
-  pub appends_cut : Appends r old more new → cond (is_ok r) new (take (length old) new) ≡ cond (is_ok r) (old ++ more) old
-  appends_cut = go r
-    where
-      go : (r : Result T E) → Appends r old more new → cond (is_ok r) new (take (length old) new) ≡ cond (is_ok r) (old ++ more) old
-      go (Ok x) e = e
-      go (Err x) k = k

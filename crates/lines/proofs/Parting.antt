@@ -1,60 +1,56 @@
 -- Where a list is parted.
-use Rattle.std.proofs.Common.{◌≡◌, ℕ, ◌+◌, ◌-◌, ◌<◌, ◌≤◌, Bool, true, false, cond, eqb, List, [], ◌∷◌, ◌++◌, length, get_or, take, drop, sym, refl, ap, ◌∙◌, append_assoc, append-nil, arith}
-use Rattle.std.proofs.lemmas.List.{drop_more, take_more, drop_all, take_all, take_rest, length-take, length-drop}
-use Rattle.std.proofs.lemmas.Bool.{eq-eqb, ne_eqb}
+use Rattle.std.proofs.Common.{◌≡◌, ℕ, suc, ◌+◌, ◌-◌, ◌<◌, ◌≤◌, Bool, true, false, not, cond, eqb, ltb, ltb-true, ltb-false, List, [], ◌∷◌, length, take, drop, Some, None, Option, sym, refl, ap, ◌∙◌, arith}
+use Rattle.std.proofs.lemmas.List.{take_rest, length-take, length-drop}
+use Rattle.std.specs.List.{position_or_len}
 use Rattle.plain.specs.Script.{onto, parted}
 
--- the parts after p, the first of which p begins
-abbrev pub prefixed : List ℕ → List (List ℕ) → List (List ℕ)
-prefixed p [] = []
-prefixed p (x ∷ xs) = (p ++ x) ∷ xs
-
-prefixed_onto : (p : List ℕ) (b : ℕ) (xs : List (List ℕ)) → prefixed p (onto b xs) ≡ prefixed (p ++ (b ∷ [])) xs
-prefixed_onto p b [] = refl
-prefixed_onto p b (x ∷ xs) = ap (λ (l : List ℕ). l ∷ xs) (sym (append_assoc p (b ∷ []) x))
-
-prefixed_none : (xs : List (List ℕ)) → prefixed [] xs ≡ xs
-prefixed_none [] = refl
-prefixed_none (x ∷ xs) = refl
+-- the place of the first byte s, or the length
+abbrev pub place : ℕ → List ℕ → ℕ
+place s t = position_or_len (λ b. eqb b s) t
 
 pub shorter_here : (t : List ℕ) (i : ℕ) → i < length t → length (take (length t - (i + 1)) (drop (i + 1) t)) < length t
 shorter_here t i h = simp (length-take, length-drop) (omega arith)
 
-module _ (s : ℕ) (t : List ℕ) where
-  -- the parts of t, after the first i bytes were found to be others than s
-  abbrev pub Passed : ℕ → Type 0
-  Passed i = parted s t ≡ prefixed (take i t) (parted s (drop i t))
+module _ (s : ℕ) where
+  Parted : List ℕ → Type 0
+  Parted t = (place s t < length t → parted s t ≡ take (place s t) t ∷ parted s (drop (place s t + 1) t)) × (length t ≤ place s t → parted s t ≡ t ∷ [])
 
-  pub passed_none : Passed 0
-  passed_none = sym (prefixed_none (parted s t))
+  parted_by : (t : List ℕ) → Parted t
+  unfolding Parted
+  parted_by [] = (λ h. absurd (omega arith), λ h. refl)
+  parted_by (b ∷ bs) = go (eqb b s) (parted_by bs)
+    where
+      go : (q : Bool) → Parted bs → (cond (not q) (1 + place s bs) 0 < suc (length bs) → cond q ([] ∷ parted s bs) (onto b (parted s bs)) ≡ take (cond (not q) (1 + place s bs) 0) (b ∷ bs) ∷ parted s (drop (cond (not q) (1 + place s bs) 0 + 1) (b ∷ bs)))
+          × (suc (length bs) ≤ cond (not q) (1 + place s bs) 0 → cond q ([] ∷ parted s bs) (onto b (parted s bs)) ≡ (b ∷ bs) ∷ [])
+      go true ih = (λ h. refl, λ h. absurd (omega arith))
+      go false ih = (
+        λ h. ap (onto b) (ih.0 (omega arith))
+            ∙ ap (λ (k : ℕ). take k (b ∷ bs) ∷ parted s (drop (place s bs + 1) bs)) {x = suc (place s bs)} {y = 1 + place s bs} (omega arith)
+            ∙ ap (λ (k : ℕ). take (1 + place s bs) (b ∷ bs) ∷ parted s (drop k (b ∷ bs))) {x = suc (place s bs + 1)} {y = 1 + place s bs + 1} (omega arith),
+        λ h. ap (onto b) (ih.1 (omega arith)),
+      )
 
-  pub passed_more : (i : ℕ) → i < length t → (get_or t i 0 ≡ s → ⊥) → Passed i → Passed (i + 1)
-  passed_more i h ne e =
-      let b = get_or t i 0 in
-      let rest = parted s (drop (i + 1) t) in
-      e
-      ∙ ap (λ (l : List ℕ). prefixed (take i t) (parted s l)) (drop_more t i 0 h)
-      ∙ ap (λ (q : Bool). prefixed (take i t) (cond q ([] ∷ rest) (onto b rest))) (ne_eqb b s ne)
-      ∙ prefixed_onto (take i t) b rest
-      ∙ ap (λ (p : List ℕ). prefixed p rest) (sym (take_more t i 0 h))
+  -- by what `position` gives, with the rest as a slice
+  module _ (t : List ℕ) (r : Option ℕ) (e : r ≡ cond (ltb (place s t) (length t)) (Some (place s t)) None) where
+    pub parted_nowhere : r ≡ None → parted s t ≡ t ∷ []
+    unfolding Parted
+    parted_nowhere z = go (ltb (place s t) (length t)) refl (sym z ∙ e)
+      where
+        go : (q : Bool) → ltb (place s t) (length t) ≡ q → None ≡ cond q (Some (place s t)) None → parted s t ≡ t ∷ []
+        go true l f = let n : ◌≡◌ {A = ℕ} 0 1 = cc in absurd (omega arith)
+        go false l f = (parted_by t).1 (omega (arith, ltb-false (place s t) (length t) l))
 
-  -- the two parts as slices: from 0 to i, and from i + 1 to the end
-  pub parted_here : (i : ℕ) → i < length t → get_or t i 0 ≡ s → Passed i → parted s t ≡ take (i - 0) t ∷ parted s (take (length t - (i + 1)) (drop (i + 1) t))
-  parted_here i h eq e =
-      let b = get_or t i 0 in
-      let rest = parted s (drop (i + 1) t) in
-      let whole : i ≡ i - 0 = omega arith in
-      e
-      ∙ ap (λ (l : List ℕ). prefixed (take i t) (parted s l)) (drop_more t i 0 h)
-      ∙ ap (λ (q : Bool). prefixed (take i t) (cond q ([] ∷ rest) (onto b rest))) (eq-eqb b s eq)
-      ∙ ap (λ (p : List ℕ). p ∷ rest) (append-nil (take i t) ∙ ap (λ (n : ℕ). take n t) whole)
-      ∙ ap (λ (l : List ℕ). take (i - 0) t ∷ parted s l) (sym (take_rest t (i + 1)))
-
-  pub parted_nowhere : (i : ℕ) → length t ≤ i → Passed i → parted s t ≡ t ∷ []
-  parted_nowhere i h e =
-      e
-      ∙ ap (λ (l : List ℕ). prefixed (take i t) (parted s l)) (drop_all i t h)
-      ∙ ap (λ (p : List ℕ). p ∷ []) (append-nil (take i t) ∙ take_all i t h)
+    pub parted_here : (i : ℕ) → r ≡ Some i → parted s t ≡ take i t ∷ parted s (take (length t - (i + 1)) (drop (i + 1) t))
+    unfolding Parted
+    parted_here i z = go (ltb (place s t) (length t)) refl (sym z ∙ e)
+      where
+        go : (q : Bool) → ltb (place s t) (length t) ≡ q → Some i ≡ cond q (Some (place s t)) None → parted s t ≡ take i t ∷ parted s (take (length t - (i + 1)) (drop (i + 1) t))
+        go true l f =
+            let n : place s t ≡ i = cc in
+            (parted_by t).0 (omega (arith, ltb-true (place s t) (length t) l))
+            ∙ ap (λ (k : ℕ). take k t ∷ parted s (drop (k + 1) t)) n
+            ∙ ap (λ (l : List ℕ). take i t ∷ parted s l) (sym (take_rest t (i + 1)))
+        go false l f = let n : ◌≡◌ {A = ℕ} 0 1 = cc in absurd (omega arith)
 
 -- there is always a part
 pub parted_some : (s : ℕ) (t : List ℕ) → (x : List ℕ) × ((xs : List (List ℕ)) × (parted s t ≡ x ∷ xs))

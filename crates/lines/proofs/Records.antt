@@ -1,11 +1,9 @@
 -- Records that are not readable, by their names and the number of their fields.
-use Rattle.std.proofs.Common.{◌≡◌, ℕ, ◌<◌, ◌≤◌, Bool, true, false, cond, eqb, leb, List, [], ◌∷◌, length, get_or, Some, None, Option, sym, refl, ap, ◌∙◌, arith}
-use Rattle.std.proofs.lemmas.Bool.{and_right, le-leb, lt-leb}
-use Rattle.std.specs.Option.{option_map}
+use Rattle.std.proofs.Common.{◌≡◌, ℕ, ◌≤◌, Bool, true, false, eqb, List, [], ◌∷◌, length, None, Option, sym, refl, ap, ◌∙◌}
+use Rattle.std.proofs.lemmas.Bool.{and_right, le-leb}
 use Rattle.plain.specs.Lists.{same}
-use Rattle.plain.specs.Script.{Request, parted, at_most, read_fields, request_of_line}
+use Rattle.plain.specs.Script.{Request, parted, read_fields, request_of_line}
 use Rattle.lines.proofs.Parting.{parted_some}
-use Rattle.plain.specs.declared.calls.Request.TheVariants.{Open}
 
 -- a name of other than one byte is that of no record
 nameless : (f : List ℕ) (b : ℕ) → (length f ≡ 1 → ⊥) → same f (b ∷ []) ≡ false
@@ -25,21 +23,6 @@ module _ (f : List ℕ) (h : length f ≡ 1 → ⊥) where
 
 too_many : (f x y t : List ℕ) → None ≡ read_fields (f ∷ (x ∷ (y ∷ parted 9 t)))
 too_many f x y t = let p = parted_some 9 t in sym (ap (λ (zs : List (List ℕ)). read_fields (f ∷ (x ∷ (y ∷ zs)))) p.1.1)
-
-module _ (s : List ℕ) (o : Option (List ℕ)) (e : Some s ≡ o) where
-  sized : option_map {U = Request} Open (at_most 2048 o) ≡ option_map Open (cond (leb (length s) 2048) (Some s) None)
-  sized = ap (λ (o : Option (List ℕ)). option_map Open (at_most 2048 o)) (sym e)
-
-  pub open_some : length s ≤ 2048 → Some (Open s) ≡ option_map Open (at_most 2048 o)
-  open_some h = sym (sized ∙ ap (λ (q : Bool). option_map Open (cond q (Some s) None)) (le-leb (length s) 2048 h))
-
-  pub open_none : 2048 < length s → None ≡ option_map {U = Request} Open (at_most 2048 o)
-  open_none h = sym (sized ∙ ap (λ (q : Bool). option_map Open (cond q (Some s) None)) (lt-leb (length s) 2048 h))
-
-pub single : (xs : List ℕ) → length xs ≡ 1 → xs ≡ get_or xs 0 0 ∷ []
-single [] h = absurd (omega arith)
-single (x ∷ []) h = refl
-single (x ∷ (y ∷ ys)) h = absurd (omega arith)
 
 -- a line of more than three fields
 module _ (l f r x r' y t : List ℕ) where

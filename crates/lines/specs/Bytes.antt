@@ -1,5 +1,5 @@
 -- The bytes that pairs of hexadecimal digits stand for.
-use Rattle.std.specs.Prelude.{ℕ, ◌+◌, ◌*◌, List, [], ◌∷◌}
+use Rattle.std.specs.Prelude.{ℕ, ◌+◌, ◌*◌, List, map, slice_index_or}
 use Rattle.std.specs.Option.{unwrap_or}
 use Rattle.plain.specs.Script.{nibble}
 use Rattle.lines.specs.declared.hex.Hex.{Hex}
@@ -7,10 +7,8 @@ use Rattle.lines.specs.declared.hex.Hex.{Hex}
 abbrev pub digit_value_of : ℕ → ℕ
 digit_value_of b = unwrap_or (nibble b) 0
 
-abbrev pub paired : List ℕ → List ℕ
-paired [] = []
-paired (a ∷ []) = []
-paired (a ∷ (b ∷ bs)) = (digit_value_of a * 16 + digit_value_of b) ∷ paired bs
+abbrev pub pair_value : List ℕ → ℕ
+pair_value p = digit_value_of (slice_index_or p 0 0) * 16 + digit_value_of (slice_index_or p 1 0)
 
 abbrev pub bytes_of : Hex → List ℕ
-bytes_of h = paired h.digits.now
+bytes_of h = map pair_value h.pairs.now

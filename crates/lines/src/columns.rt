@@ -1,8 +1,9 @@
 // A printed line: its fields, with tabs between and a line feed at the end.
-ghost use Rattle.std.specs.Prelude.{◌≡◌, [], ◌∷◌, ◌++◌, map, is_ok, if◌then◌else◌, decimal, nat_eq};
+ghost use Rattle.std.specs.Prelude.{◌≡◌, [], ◌∷◌, ◌++◌, map, is_ok, if◌then◌else◌, nat_eq};
 ghost use Rattle.plain.specs.Script.{printed};
 ghost use Rattle.lines.specs.Columns.{Appends, column_bytes};
 
+use itoa::Buffer;
 use std::alloc::AllocError;
 
 #[derive(Clone, Copy)]
@@ -11,22 +12,24 @@ pub enum Column<'a> {
     Number(u64),
 }
 
-fn put_number(out: &mut Vec<u8>, n: u64) -> Result<(), AllocError>
-    ensures { Appends result out.old.items (decimal n) out.new.items }
-{
-    if n >= 10 {
-        put_number(out, n / 10)?;
+impl<'a> From<u32> for Column<'a> {
+    ghost use Rattle.std.specs.Prelude.{◌≡◌};
+    ghost use Rattle.lines.specs.declared.columns.Column.TheVariants.{Number};
+
+    ghost from_gives = { λ n column. column ≡ Number n };
+
+    fn from(n: u32) -> Column<'a> {
+        Column::Number(u64::from(n))
     }
-    out.push(b'0' + (n % 10) as u8)?;
-    Ok(())
 }
 
+// The digits are made first: of what a failed `write!` wrote nothing is known.
 fn put_column(out: &mut Vec<u8>, column: Column) -> Result<(), AllocError>
     ensures { Appends result out.old.items (column_bytes column.entry) out.new.items }
 {
     match column {
         Column::Word(bytes) => out.extend_from_slice(bytes),
-        Column::Number(n) => put_number(out, n),
+        Column::Number(n) => out.extend_from_slice(Buffer::new().format(n).as_bytes()),
     }
 }
 
@@ -56,11 +59,9 @@ pub fn print_line(out: &mut Vec<u8>, columns: &[Column]) -> Result<(), AllocErro
     ensures { out.new.items ≡ (if is_ok result then out.old.items ++ printed (map column_bytes columns.now) else out.old.items) }
 {
     let kept = out.len();
-    match put_line(out, columns) {
-        Ok(()) => Ok(()),
-        Err(e) => {
-            out.truncate(kept);
-            Err(e)
-        }
+    let printed = put_line(out, columns);
+    if printed.is_err() {
+        out.truncate(kept);
     }
+    printed
 }

@@ -9,12 +9,8 @@ pub fn split_once<'a>(bytes: &'a [u8], byte: u8) -> Option<(&'a [u8], &'a [u8])>
     ensures parts { MatchOption result (parted byte bytes.now ≡ bytes.now ∷ []) (λ x. parted byte bytes.now ≡ x.0.now ∷ parted byte x.1.now) }
     ensures shorter { IfSome result (λ x. length x.1.now < length bytes.now) }
 {
-    for (i, b) in bytes.iter().enumerate() {
-        if *b == byte {
-            return Some((&bytes[0..i], &bytes[i + 1..]));
-        }
-    }
-    None
+    let at = bytes.iter().position(|b| *b == byte)?;
+    Some((&bytes[..at], &bytes[at + 1..]))
 }
 
 // A number of 1 to 10 digits, leading zeros among them, up to the limit.
@@ -26,24 +22,19 @@ pub fn read_number(field: &[u8], limit: u32) -> Option<u32>
         return None;
     }
     let mut n: u64 = 0;
+    // No `parse`: it takes a sign, and text, so that each byte would be tested before it all the same.
     for b in field {
         if !b.is_ascii_digit() {
             return None;
         }
         n = n * 10 + u64::from(*b - b'0');
     }
-    if n <= u64::from(limit) {
-        Some(n as u32)
-    } else {
-        None
-    }
+    let n = u32::try_from(n).ok()?;
+    (n <= limit).then_some(n)
 }
 
 pub fn read_label(field: &[u8]) -> Option<u16>
     ensures { result ≡ numeral 65535 field.now }
 {
-    match read_number(field, 65535) {
-        Some(n) => Some(n as u16),
-        None => None,
-    }
+    read_number(field, u32::from(u16::MAX)).and_then(|n| u16::try_from(n).ok())
 }

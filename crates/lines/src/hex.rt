@@ -6,10 +6,10 @@ ghost use Rattle.lines.specs.Bytes.{digit_value_of, bytes_of};
 
 use std::alloc::AllocError;
 
-// Only `Hex::read` makes one: its digits are pairs, and none is upper case.
+// Only `Hex::read` makes one, of digits none of which is upper case.
 #[derive(Clone, Copy)]
 pub struct Hex<'a> {
-    digits: &'a [u8],
+    pairs: &'a [[u8; 2]],
 }
 
 fn read_digit(b: u8) -> Option<u8>
@@ -33,34 +33,28 @@ impl<'a> Hex<'a> {
     pub fn read(field: &'a [u8]) -> Option<Hex<'a>>
         ensures { option_map bytes_of result ≡ hexes field.now }
     {
-        if field.len() % 2 != 0 {
+        let (pairs, odd) = field.as_chunks::<2>();
+        if !odd.is_empty() {
             return None;
         }
-        for b in field {
-            if read_digit(*b).is_none() {
-                return None;
-            }
-        }
-        Some(Hex { digits: field })
+        let all_digits = field.iter().all(|b| read_digit(*b).is_some());
+        all_digits.then_some(Hex { pairs })
     }
 
     // How many bytes it stands for.
     pub fn len(&self) -> usize
         ensures { result ≡ length (bytes_of self.now) }
     {
-        self.digits.len() / 2
+        self.pairs.len()
     }
 
     // Appends the bytes, or nothing where there is no memory.
     pub fn decode_into(&self, out: &mut Vec<u8>) -> Result<(), AllocError>
         ensures { out.new.items ≡ (if is_ok result then out.old.items ++ bytes_of self.now else out.old.items) }
     {
-        let len = self.len();
-        out.reserve(len)?;
-        for i in 0..len {
-            out.push_reserved(
-                digit_value(self.digits[2 * i]) * 16 + digit_value(self.digits[2 * i + 1]),
-            );
+        out.reserve(self.len())?;
+        for [high, low] in self.pairs {
+            out.push_reserved(digit_value(*high) * 16 + digit_value(*low));
         }
         Ok(())
     }

@@ -7,6 +7,7 @@ use plain::answers::{Answer, Bracket, Kind, Match};
 use plain::faults::{Layer, ScriptFault};
 use std::alloc::AllocError;
 
+// The names are those of a script's lines, so they stand here and not on the types.
 fn kind_name(kind: Kind) -> &'static [u8]
     ensures { result.now ≡ kind_name_of kind }
 {
@@ -51,48 +52,42 @@ pub fn print_answer(out: &mut Vec<u8>, size: u32, answer: Answer<u32>) -> Result
     ensures { out.new.items ≡ (if is_ok result then out.old.items ++ printed (answer_fields size answer) else out.old.items) }
 {
     match answer {
-        Answer::Done => print_line(out, &[Column::Word(b"ok"), Column::Number(size as u64)]),
+        Answer::Done => print_line(out, &[Column::Word(b"ok"), Column::from(size)]),
         Answer::Line(place) => print_line(
             out,
-            &[
-                Column::Number(place.line as u64),
-                Column::Number(place.column as u64),
-            ],
+            &[Column::from(place.line), Column::from(place.column)],
         ),
-        Answer::Start(Some(start)) => print_line(out, &[Column::Number(start as u64)]),
+        Answer::Start(Some(start)) => print_line(out, &[Column::from(start)]),
         Answer::Token(Some(token)) => print_line(
             out,
             &[
-                Column::Number(token.start as u64),
-                Column::Number(token.end as u64),
-                Column::Number(token.number as u64),
+                Column::from(token.start),
+                Column::from(token.end),
+                Column::from(token.number),
                 Column::Word(kind_name(token.kind)),
             ],
         ),
         Answer::Bracket(Some(Bracket::Paired { partner, fit })) => print_line(
             out,
-            &[
-                Column::Number(partner as u64),
-                Column::Word(match_name(fit)),
-            ],
+            &[Column::from(partner), Column::Word(match_name(fit))],
         ),
         Answer::Bracket(Some(Bracket::Alone)) => print_line(out, &[Column::Word(b"alone")]),
         Answer::Mark(Some(mark)) => print_line(
             out,
             &[
-                Column::Number(mark.offset as u64),
-                Column::Number(mark.label as u64),
+                Column::from(mark.offset),
+                Column::Number(u64::from(mark.label)),
             ],
         ),
-        Answer::Range(value) => print_line(out, &[Column::Number(value as u64)]),
+        Answer::Range(value) => print_line(out, &[Column::from(value)]),
         Answer::Whole(whole) => print_line(
             out,
             &[
-                Column::Number(whole.bytes as u64),
-                Column::Number(whole.lines as u64),
-                Column::Number(whole.tokens as u64),
-                Column::Number(whole.strays as u64),
-                Column::Number(whole.unmet as u64),
+                Column::from(whole.bytes),
+                Column::from(whole.lines),
+                Column::from(whole.tokens),
+                Column::from(whole.strays),
+                Column::from(whole.unmet),
             ],
         ),
         Answer::Sound => print_line(out, &[Column::Word(b"sound")]),
@@ -109,7 +104,7 @@ pub fn print_fault(out: &mut Vec<u8>, refusal: ScriptFault) -> Result<(), AllocE
         out,
         &[
             Column::Word(b"refused"),
-            Column::Number(refusal.fault.number() as u64),
+            Column::Number(u64::from(refusal.fault.number())),
             Column::Word(layer_name(refusal.fault.layer())),
             Column::Number(refusal.line as u64),
         ],

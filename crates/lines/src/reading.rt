@@ -81,11 +81,7 @@ fn read_open<'a>(field: &'a [u8]) -> Option<Request<Hex<'a>>>
     ensures { option_map (map_request bytes_of) result ≡ option_map Open (at_most 2048 (hexes field.now)) }
 {
     let bytes = Hex::read(field)?;
-    if bytes.len() <= ORIGINAL {
-        Some(Request::Open(bytes))
-    } else {
-        None
-    }
+    (bytes.len() <= ORIGINAL).then_some(Request::Open(bytes))
 }
 
 // A record's name is one letter.
@@ -128,15 +124,15 @@ fn read_request<'a>(line: &'a [u8]) -> Option<Request<Hex<'a>>>
     if line.len() > LINE {
         return None;
     }
-    match split_once(line, TAB) {
-        None => one_field(line),
-        Some((name, rest)) => match split_once(rest, TAB) {
-            None => two_fields(name, rest),
-            Some((first, rest)) => match split_once(rest, TAB) {
-                None => three_fields(name, first, rest),
-                Some(_) => None,
-            },
-        },
+    let Some((name, rest)) = split_once(line, TAB) else {
+        return one_field(line);
+    };
+    let Some((first, second)) = split_once(rest, TAB) else {
+        return two_fields(name, rest);
+    };
+    match split_once(second, TAB) {
+        None => three_fields(name, first, second),
+        Some(_) => None,
     }
 }
 

@@ -8,7 +8,7 @@ use Rattle.measures.specs.declared.mark_totals.MarkTotals.{MarkTotals}
 use Rattle.slots.specs.Ghost.{leaf, a1, a2, Arm, Finger, nil, same, occ_list, tree_of, rows, occ, occ_part, At, Fit}
 use Rattle.slots.specs.Post.{Wrote, LeafPut}
 use Rattle.slots.specs.declared.records.Unsound.{Unsound}
-use Rattle.slots.specs.declared.records.Link.{Link}
+use Rattle.slots.specs.Words.{Link}
 use Rattle.slots.specs.declared.records.Digit.TheVariants.{One, Two}
 use Rattle.slots.specs.declared.records.Tree.{Tree}
 use Rattle.slots.specs.declared.records.Tree.TheVariants.{Empty}

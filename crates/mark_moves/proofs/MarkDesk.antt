@@ -12,7 +12,7 @@ use Rattle.slots.specs.Post.{TreeValued}
 use Rattle.slots.specs.Theorems.{total}
 use Rattle.slots.specs.Values.{wt}
 use Rattle.slots.specs.declared.records.Unsound.{Unsound}
-use Rattle.slots.specs.declared.records.Link.{Link}
+use Rattle.slots.specs.Words.{Link}
 use Rattle.slots.specs.declared.records.Tree.{Tree}
 use Rattle.slots.specs.declared.records.Record.{Record}
 use Rattle.slots.proofs.Counts.{total_add, total_same, tree_count, named_le, supply}

@@ -11,14 +11,14 @@ use Rattle.slots.specs.Ghost.{Finger, same, named, occ_list, none, tree_of, rows
 use Rattle.slots.specs.Holds.{Holds, most}
 use Rattle.slots.specs.Post.{Given}
 use Rattle.slots.specs.declared.records.Unsound.{Unsound}
-use Rattle.slots.specs.declared.records.Link.{Link}
+use Rattle.slots.specs.Words.{Link}
 use Rattle.slots.specs.declared.records.Tree.{Tree}
 use Rattle.slots.specs.declared.records.Record.{Record}
 use Rattle.slots.specs.declared.records.Record.TheVariants.{Free}
 use Rattle.slots.proofs.Counts.{total_add, tree_count, named_le, supply}
 use Rattle.slots.proofs.Frames.{calm_then, off_more, Put, put, put_calm, frame, frame_chain}
 use Rattle.slots.proofs.Shapes.{ok_err, ok_same}
-use Rattle.release_count.specs.Post.{Back, Released}
+use Rattle.release.specs.Post.{Back, Released}
 use Rattle.pieces.specs.Sound.{itself, mark_mean, Laid, LaidTwo}
 use Rattle.pieces.proofs.Bench.{Bench, bench_start, bench_by, bench_once, bench_step, bench_spare, stays_tree}
 use Rattle.pieces.proofs.MarkMoves.{gapped, gaps_append, placed_append, shrunk_after, shrunk_between, shrunk_drop, shrunk_turn}

@@ -10,7 +10,7 @@ use Rattle.slots.specs.Holds.{Holds, most}
 use Rattle.slots.specs.Post.{Wrote}
 use Rattle.slots.specs.Values.{flat, row_in}
 use Rattle.slots.specs.declared.records.Unsound.{Unsound}
-use Rattle.slots.specs.declared.records.Link.{Link}
+use Rattle.slots.specs.Words.{Link}
 use Rattle.slots.specs.declared.records.Tree.{Tree}
 use Rattle.slots.specs.declared.records.Digit.TheVariants.{One}
 use Rattle.slots.specs.declared.records.Record.{Record}

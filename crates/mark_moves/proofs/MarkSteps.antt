@@ -8,7 +8,7 @@ use Rattle.slots.specs.Ghost.{Arm, Finger, same, occ_list, head_of, part_of, tre
 use Rattle.slots.specs.Post.{Wrote, LeafPut}
 use Rattle.slots.specs.Theorems.{total}
 use Rattle.slots.specs.declared.records.Unsound.{Unsound}
-use Rattle.slots.specs.declared.records.Link.{Link}
+use Rattle.slots.specs.Words.{Link}
 use Rattle.slots.specs.declared.records.Tree.{Tree}
 use Rattle.slots.specs.declared.records.Digit.{Digit}
 use Rattle.slots.specs.declared.records.Record.{Record}

@@ -7,7 +7,7 @@ use Rattle.measures.specs.declared.mark_totals.MarkTotals.{MarkTotals}
 use Rattle.slots.specs.Ghost.{Finger, rows}
 use Rattle.slots.specs.Holds.{most}
 use Rattle.slots.specs.declared.records.Unsound.{Unsound}
-use Rattle.slots.specs.declared.records.Link.{Link}
+use Rattle.slots.specs.Words.{Link}
 use Rattle.slots.specs.declared.records.Tree.{Tree}
 use Rattle.slots.specs.declared.records.Record.{Record}
 use Rattle.pieces.specs.Sound.{mark_mean, LaidTwo}

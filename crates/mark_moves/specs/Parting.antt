@@ -6,7 +6,7 @@ use Rattle.measures.specs.declared.mark_totals.MarkTotals.{MarkTotals}
 use Rattle.slots.specs.Ghost.{Finger, same, occ_list, none, head_of, tree_of, rows, levels, occ, At, Fit, Chain, Calm, Off}
 use Rattle.slots.specs.Holds.{Holds, most, spare}
 use Rattle.slots.specs.declared.records.Unsound.{Unsound}
-use Rattle.slots.specs.declared.records.Link.{Link}
+use Rattle.slots.specs.Words.{Link}
 use Rattle.slots.specs.declared.records.Tree.{Tree}
 use Rattle.slots.specs.declared.records.Record.{Record}
 use Rattle.slots.specs.declared.records.Record.TheVariants.{Leaf}

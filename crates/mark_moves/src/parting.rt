@@ -10,7 +10,8 @@ use measures::Measure;
 use measures::mark_totals::{MarkRow, MarkTotals};
 use measures::probes::MarkFrom;
 use pieces::head::MarkRecord;
-use slots::arena::{row_at, write_slot};
+use slots::arena::write_slot;
+use slots::reading::row_at;
 use slots::records::{Digit, Link, Record, Tree, Unsound};
 use split::descent::split;
 
@@ -36,18 +37,16 @@ pub fn part_marks(
 {
     let probe = MarkFrom { at };
     let found = split::<MarkRow, MarkTotals, MarkFrom>(slots, free, marks, &probe, place)?;
-    match found {
-        None => Ok(None),
-        Some(halves) => {
-            let row = row_at(slots, halves.at)?;
-            Ok(Some(MarkHalves {
-                left: halves.left,
-                at: halves.at,
-                row,
-                right: halves.right,
-            }))
-        }
-    }
+    let Some(halves) = found else {
+        return Ok(None);
+    };
+    let row = row_at(slots, halves.at)?;
+    Ok(Some(MarkHalves {
+        left: halves.left,
+        at: halves.at,
+        row,
+        right: halves.right,
+    }))
 }
 
 // Gives the leaf in slot i another row.

@@ -6,7 +6,7 @@ use crate::parting::{MarkHalves, join_moved, part_marks};
 use measures::Measure;
 use measures::mark_totals::MarkTotals;
 use pieces::head::MarkRecord;
-use release_count::release;
+use release::release;
 use slots::arena::give_slot;
 use slots::records::{Link, Tree, Unsound};
 
@@ -50,22 +50,12 @@ pub fn drop_marks(
 ) -> Result<Tree, Unsound>
     ensures { MarksDropped slots.old slots.new free.old free.new left rest place.old to base result }
 {
-    let found = part_marks(slots, free, rest, to, place)?;
-    match found {
-        None => {
-            release(slots, free, rest)?;
-            Ok(left)
-        }
-        Some(next) => {
-            release(slots, free, next.left)?;
-            let offset = place.gaps.saturating_add(next.row.gap);
-            let halves = MarkHalves {
-                left,
-                at: next.at,
-                row: next.row,
-                right: next.right,
-            };
-            join_moved(slots, free, halves, offset.saturating_sub(base))
-        }
-    }
+    let Some(next) = part_marks(slots, free, rest, to, place)? else {
+        release(slots, free, rest)?;
+        return Ok(left);
+    };
+    release(slots, free, next.left)?;
+    let offset = place.gaps.saturating_add(next.row.gap);
+    let halves = MarkHalves { left, ..next };
+    join_moved(slots, free, halves, offset.saturating_sub(base))
 }

@@ -1,21 +1,24 @@
-use Rattle.std.proofs.Common.{◌≡◌, ℕ, suc, ◌+◌, ◌≤◌, min, max, Bool, true, false, cond, ◌&&◌, ◌||◌, List, [], ◌∷◌, ◌++◌, sym, refl, ap, ◌∙◌, arith}
+use Rattle.std.proofs.Common.{◌≡◌, ℕ, zero, suc, ◌+◌, ◌≤◌, min, max, Bool, true, false, cond, List, [], ◌∷◌, ◌++◌, sym, refl, ap, subst, ◌∙◌, arith}
 use Rattle.plain.specs.Lists.{greatest}
 use Rattle.plain.specs.Tokens.{feed}
 use Rattle.plain.specs.Questions.{lengthened, line_lengths, longest}
-use Rattle.measures.specs.Law.{Joins, weights}
-use Rattle.measures.specs.Lines.{inner, last, edges, lines}
+use Rattle.measures.specs.Law.{Joins, weights, heaviest}
+use Rattle.measures.specs.Lines.{inner, last, edges, lines, longest_in}
 use Rattle.measures.specs.declared.longest_line.LongestLine.{LongestLine}
+use Rattle.measures.specs.declared.longest_line.LongestLine.TheVariants.{Whole, Parted}
 
-abbrev make : Bool → ℕ → ℕ → ℕ → LongestLine
-make b m n p = record { has_feed = b; first = m; inner = n; last = p }
+whole_eq : {m n : ℕ} → m ≡ n → Whole m ≡ Whole n
+whole_eq e = cc
 
-make_eq : {b c : Bool} {m n p m' n' p' : ℕ} → b ≡ c → m ≡ m' → n ≡ n' → p ≡ p' → make b m n p ≡ make c m' n' p'
-make_eq e f g h = cc
+parted_eq : {m n p m' n' p' : ℕ} → m ≡ m' → n ≡ n' → p ≡ p' → Parted m n p ≡ Parted m' n' p'
+parted_eq e f g = cc
 
 -- one byte more in front, a line feed or not
 abbrev front : Bool → LongestLine → LongestLine
-front true v = make true 0 (cond v.has_feed (max v.first v.inner) v.inner) v.last
-front false v = make v.has_feed (v.first + 1) v.inner (cond v.has_feed v.last (v.last + 1))
+front true (Whole n) = Parted 0 0 n
+front true (Parted m n p) = Parted 0 (max m n) p
+front false (Whole n) = Whole (n + 1)
+front false (Parted m n p) = Parted (m + 1) n p
 
 -- there is always a first line
 pub some_line : (P : List ℕ → Type 0) → ((n : ℕ) (ns : List ℕ) → P (n ∷ ns)) → (bs : List ℕ) → P (line_lengths bs)
@@ -27,87 +30,78 @@ some_line P k (b ∷ bs) = some_line (λ ns. P (cond (feed b) (0 ∷ ns) (length
     at false n ns = k (suc n) ns
 
 edges_front : (f : Bool) (n : ℕ) (ns : List ℕ) → edges (cond f (0 ∷ (n ∷ ns)) (lengthened (n ∷ ns))) ≡ front f (edges (n ∷ ns))
-edges_front true n [] = make_eq refl refl refl refl
-edges_front true n (m ∷ ns) = make_eq refl refl refl refl
-edges_front false n [] = make_eq refl (omega arith) refl (omega arith)
-edges_front false n (m ∷ ns) = make_eq refl (omega arith) refl refl
+edges_front true n [] = refl
+edges_front true n (m ∷ ns) = refl
+edges_front false n [] = whole_eq (omega arith)
+edges_front false n (m ∷ ns) = parted_eq (omega arith) refl refl
 
 lines_front : (b : ℕ) (bs : List ℕ) → lines (b ∷ bs) ≡ front (feed b) (lines bs)
 lines_front b bs = some_line (λ ns. edges (cond (feed b) (0 ∷ ns) (lengthened ns)) ≡ front (feed b) (edges ns)) (edges_front (feed b)) bs
 
 -- two lists one after the other: the last line of one goes on in the first of the other
 abbrev linked : LongestLine → LongestLine → LongestLine
-linked v w =
-    make (v.has_feed || w.has_feed)
-    (cond v.has_feed v.first (v.last + w.first))
-    (max (max v.inner w.inner) (cond (v.has_feed && w.has_feed) (v.last + w.first) 0))
-    (cond w.has_feed w.last (v.last + w.last))
+linked (Whole x) (Whole y) = Whole (x + y)
+linked (Whole x) (Parted m n p) = Parted (x + m) n p
+linked (Parted m n p) (Whole y) = Parted m n (p + y)
+linked (Parted m n p) (Parted m' n' p') = Parted m (max (max n n') (p + m')) p'
 
-linked_none : (c : Bool) (m n p : ℕ) → linked (lines []) (make c m n p) ≡ make c m n p
-linked_none true m n p = make_eq refl (omega arith) (omega arith) refl
-linked_none false m n p = make_eq refl (omega arith) (omega arith) (omega arith)
+linked_none : (v : LongestLine) → linked (lines []) v ≡ v
+linked_none (Whole y) = whole_eq (omega arith)
+linked_none (Parted m n p) = parted_eq (omega arith) refl refl
 
-linked_front : (f b c : Bool) (m n p m' n' p' : ℕ) → linked (front f (make b m n p)) (make c m' n' p') ≡ front f (linked (make b m n p) (make c m' n' p'))
-linked_front true true true m n p m' n' p' = make_eq refl (omega arith) (omega arith) (omega arith)
-linked_front true true false m n p m' n' p' = make_eq refl (omega arith) (omega arith) (omega arith)
-linked_front true false true m n p m' n' p' = make_eq refl (omega arith) (omega arith) (omega arith)
-linked_front true false false m n p m' n' p' = make_eq refl (omega arith) (omega arith) (omega arith)
-linked_front false true true m n p m' n' p' = make_eq refl (omega arith) (omega arith) (omega arith)
-linked_front false true false m n p m' n' p' = make_eq refl (omega arith) (omega arith) (omega arith)
-linked_front false false true m n p m' n' p' = make_eq refl (omega arith) (omega arith) (omega arith)
-linked_front false false false m n p m' n' p' = make_eq refl (omega arith) (omega arith) (omega arith)
+linked_front : (f : Bool) (v w : LongestLine) → linked (front f v) w ≡ front f (linked v w)
+linked_front true (Whole x) (Whole y) = refl
+linked_front true (Whole x) (Parted m n p) = parted_eq refl (omega arith) refl
+linked_front true (Parted m n p) (Whole y) = refl
+linked_front true (Parted m n p) (Parted m' n' p') = parted_eq refl (omega arith) refl
+linked_front false (Whole x) (Whole y) = whole_eq (omega arith)
+linked_front false (Whole x) (Parted m n p) = parted_eq (omega arith) refl refl
+linked_front false (Parted m n p) (Whole y) = refl
+linked_front false (Parted m n p) (Parted m' n' p') = refl
 
 linked_lines : (xs ys : List ℕ) → linked (lines xs) (lines ys) ≡ lines (xs ++ ys)
-linked_lines [] ys = let v = lines ys in linked_none v.has_feed v.first v.inner v.last
+linked_lines [] ys = linked_none (lines ys)
 linked_lines (x ∷ xs) ys =
-    let v = lines xs in
-    let w = lines ys in
-    ap (λ u. linked u w) (lines_front x xs)
-    ∙ linked_front (feed x) v.has_feed w.has_feed v.first v.inner v.last w.first w.inner w.last
+    ap (λ u. linked u (lines ys)) (lines_front x xs)
+    ∙ linked_front (feed x) (lines xs) (lines ys)
     ∙ ap (front (feed x)) (linked_lines xs ys)
     ∙ sym (lines_front x (xs ++ ys))
 
--- no line is lengthened than the list
-front_bound : (f b : Bool) (m n p s : ℕ) → m + n ≤ s → p ≤ s → ((front f (make b m n p)).first + (front f (make b m n p)).inner ≤ s + 1) × ((front f (make b m n p)).last ≤ s + 1)
-front_bound true true m n p s h k = (omega arith, omega arith)
-front_bound true false m n p s h k = (omega arith, omega arith)
-front_bound false true m n p s h k = (omega arith, omega arith)
-front_bound false false m n p s h k = (omega arith, omega arith)
+-- no line is longer than the list
+abbrev Within : ℕ → LongestLine → Type 0
+Within s (Whole n) = n ≤ s
+Within s (Parted m n p) = (m + n ≤ s) × (p ≤ s)
 
-pub lines_bound : (xs : List ℕ) → ((lines xs).first + (lines xs).inner ≤ weights (λ _. 1) xs) × ((lines xs).last ≤ weights (λ _. 1) xs)
-lines_bound [] = (omega arith, omega arith)
-lines_bound (x ∷ xs) =
-    let v = lines xs in
-    let e = lines_front x xs in
-    let le = lines_bound xs in
-    let more = front_bound (feed x) v.has_feed v.first v.inner v.last (weights (λ _. 1) xs) le.0 le.1 in (
-      omega (arith, more.0, ap (λ (u : LongestLine). u.first) e, ap (λ (u : LongestLine). u.inner) e),
-      omega (arith, more.1, ap (λ (u : LongestLine). u.last) e),
-    )
+front_within : (f : Bool) (v : LongestLine) (s : ℕ) → Within s v → Within (suc s) (front f v)
+front_within true (Whole n) s h = (omega arith, omega arith)
+front_within true (Parted m n p) s h = (omega arith, omega arith)
+front_within false (Whole n) s h = omega arith
+front_within false (Parted m n p) s h = (omega arith, omega arith)
 
--- where no field of the join passes the limit, it is what the code computes
-exact : (b c : Bool) (m n p m' n' p' F I L middle end between : ℕ) → middle ≡ min (p + m') 4294967295 → end ≡ min (p + p') 4294967295 → between ≡ cond (b && c) middle 0
-    → F ≡ cond b m middle → I ≡ max (max n n') between → L ≡ cond c p' end
-    → (linked (make b m n p) (make c m' n' p')).first ≤ 2097152
-    → (linked (make b m n p) (make c m' n' p')).inner ≤ 2097152
-    → (linked (make b m n p) (make c m' n' p')).last ≤ 2097152
-    → make (b || c) F I L ≡ linked (make b m n p) (make c m' n' p')
-exact true true m n p m' n' p' F I L middle end between e1 e2 e3 e4 e5 e6 h k l = make_eq refl (omega arith) (omega arith) (omega arith)
-exact true false m n p m' n' p' F I L middle end between e1 e2 e3 e4 e5 e6 h k l = make_eq refl (omega arith) (omega arith) (omega arith)
-exact false true m n p m' n' p' F I L middle end between e1 e2 e3 e4 e5 e6 h k l = make_eq refl (omega arith) (omega arith) (omega arith)
-exact false false m n p m' n' p' F I L middle end between e1 e2 e3 e4 e5 e6 h k l = make_eq refl (omega arith) (omega arith) (omega arith)
+lines_within : (xs : List ℕ) (s : ℕ) → weights (λ _. 1) xs ≤ s → Within s (lines xs)
+lines_within [] s h = omega arith
+lines_within (x ∷ xs) zero h = absurd (omega arith)
+lines_within (x ∷ xs) (suc s) h = rw (lines_front x xs) (front_within (feed x) (lines xs) s (lines_within xs s (omega arith)))
 
-pub join_lines : (a b : LongestLine) (F I L middle end between : ℕ) → middle ≡ min (a.last + b.first) 4294967295 → end ≡ min (a.last + b.last) 4294967295 → between ≡ cond (a.has_feed && b.has_feed) middle 0
-    → F ≡ cond a.has_feed a.first middle → I ≡ max (max a.inner b.inner) between → L ≡ cond b.has_feed b.last end
-    → Joins (λ _. 1) lines a b (make (a.has_feed || b.has_feed) F I L)
-join_lines a b F I L middle end between e1 e2 e3 e4 e5 e6 = record {
+-- what the code makes, in words of 32 bits that stay at the largest
+abbrev pub joined : LongestLine → LongestLine → LongestLine
+joined (Whole x) (Whole y) = Whole (min (x + y) 4294967295)
+joined (Whole x) (Parted m n p) = Parted (min (x + m) 4294967295) n p
+joined (Parted m n p) (Whole y) = Parted m n (min (p + y) 4294967295)
+joined (Parted m n p) (Parted m' n' p') = Parted m (max (max n n') (min (p + m') 4294967295)) p'
+
+-- is exact within the limit
+exact : (v w : LongestLine) → Within heaviest (linked v w) → joined v w ≡ linked v w
+exact (Whole x) (Whole y) h = whole_eq (omega arith)
+exact (Whole x) (Parted m n p) h = parted_eq (omega arith) refl refl
+exact (Parted m n p) (Whole y) h = parted_eq refl refl (omega arith)
+exact (Parted m n p) (Parted m' n' p') h = parted_eq refl (omega arith) refl
+
+pub join_lines : (a b r : LongestLine) → r ≡ joined a b → Joins (λ _. 1) lines a b r
+join_lines a b r made = record {
   joins = λ xs ys light e f.
       let law : linked a b ≡ lines (xs ++ ys) = rw (e, f) (linked_lines xs ys) in
-      let le = lines_bound (xs ++ ys) in
-      let l1 : (linked a b).first ≡ (lines (xs ++ ys)).first = ap (λ (v : LongestLine). v.first) law in
-      let l2 : (linked a b).inner ≡ (lines (xs ++ ys)).inner = ap (λ (v : LongestLine). v.inner) law in
-      let l3 : (linked a b).last ≡ (lines (xs ++ ys)).last = ap (λ (v : LongestLine). v.last) law in
-      exact a.has_feed b.has_feed a.first a.inner a.last b.first b.inner b.last F I L middle end between e1 e2 e3 e4 e5 e6 (omega (arith, le.0)) (omega (arith, le.0)) (omega (arith, le.1)) ∙ law;
+      made ∙ exact a b (subst (Within heaviest) (sym law) (lines_within (xs ++ ys) heaviest light)) ∙ law;
 }
 
 -- the longest line is the greatest of the three
@@ -115,9 +109,9 @@ inner_last : (n : ℕ) (ns : List ℕ) → max (inner (n ∷ ns)) (last n ns) �
 inner_last n [] = omega arith
 inner_last n (m ∷ ns) = omega (arith, inner_last m ns)
 
-edges_greatest : (n : ℕ) (ns : List ℕ) → max (max (edges (n ∷ ns)).first (edges (n ∷ ns)).inner) (edges (n ∷ ns)).last ≡ greatest (n ∷ ns)
+edges_greatest : (n : ℕ) (ns : List ℕ) → longest_in (edges (n ∷ ns)) ≡ greatest (n ∷ ns)
 edges_greatest n [] = omega arith
 edges_greatest n (m ∷ ns) = omega (arith, inner_last m ns)
 
-pub lines_longest : (bs : List ℕ) → max (max (lines bs).first (lines bs).inner) (lines bs).last ≡ longest bs
-lines_longest bs = some_line (λ ns. max (max (edges ns).first (edges ns).inner) (edges ns).last ≡ greatest ns) edges_greatest bs
+pub lines_longest : (bs : List ℕ) → longest_in (lines bs) ≡ longest bs
+lines_longest bs = some_line (λ ns. longest_in (edges ns) ≡ greatest ns) edges_greatest bs

@@ -1,4 +1,5 @@
 pub mod Law
+pub mod Reached
 pub mod Totals
 pub mod Lines
 pub mod MarkTotals

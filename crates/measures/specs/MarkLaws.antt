@@ -1,6 +1,7 @@
-use Rattle.std.specs.Prelude.{◌≡◌, ℕ, ◌+◌, min, List, [], ◌∷◌, ◌++◌}
+use Rattle.std.specs.Prelude.{◌≡◌, ℕ, ◌+◌, min, ◌&&◌, List, [], ◌∷◌, ◌++◌, nat_le, nat_lt}
 use Rattle.std.proofs.Common.{ap, arith, length-append}
-use Rattle.measures.specs.Law.{Joins, weights}
+use Rattle.measures.specs.Law.{Joins, Keeps, weights}
+use Rattle.measures.specs.Reached.{reached_kept, both_kept}
 use Rattle.measures.specs.MarkTotals.{gaps, totals_of_marks, placed, last_offset_of}
 use Rattle.measures.specs.declared.mark_totals.MarkRow.{MarkRow}
 use Rattle.measures.specs.declared.mark_totals.MarkTotals.{MarkTotals}
@@ -38,3 +39,10 @@ join_marks a b m n p q = record {
 pub last_offset_lem : (o : ℕ) (ms : List MarkRow) → o + gaps ms ≡ last_offset_of o (placed o ms)
 last_offset_lem o [] = omega arith
 last_offset_lem o (m ∷ ms) = omega (arith, last_offset_lem (o + m.gap) ms)
+
+-- there is a mark, and the last one lies so far
+pub mark_from_kept : (n : ℕ) → Keeps (λ m. m.gap + 1) totals_of_marks (λ v. nat_lt 0 v.count && nat_le n v.gaps)
+mark_from_kept n =
+    both_kept
+    (reached_kept (λ (v : MarkTotals). v.count) (λ xs ys. omega (arith, count_append xs ys)) 1)
+    (reached_kept (λ (v : MarkTotals). v.gaps) (λ xs ys. omega (arith, gaps_append xs ys)) n)

@@ -1,7 +1,8 @@
-use Rattle.std.specs.Prelude.{◌≡◌, ℕ, ◌+◌, ◌≤◌, min, List, ◌++◌}
+use Rattle.std.specs.Prelude.{◌≡◌, ℕ, suc, ◌+◌, ◌≤◌, min, List, ◌++◌, nat_le, nat_lt}
 use Rattle.std.proofs.Common.{ap, arith, length-append}
 use Rattle.plain.specs.Tokens.{feed}
-use Rattle.measures.specs.Law.{Joins}
+use Rattle.measures.specs.Law.{Joins, Keeps}
+use Rattle.measures.specs.Reached.{reached_kept}
 use Rattle.measures.specs.Totals.{totals}
 use Rattle.measures.specs.declared.totals.Totals.{Totals}
 use Rattle.measures.specs.Counts.{count_append, count_length}
@@ -35,3 +36,10 @@ join_totals a b m n p q = record {
       let s = feeds_bytes (xs ++ ys) in
       make_eq {m = m} {n = n} {p = (totals (xs ++ ys)).bytes} {q = (totals (xs ++ ys)).feeds} (omega arith) (omega arith);
 }
+
+-- what is past a byte, or has so many line feeds
+pub past_byte_kept : (n : ℕ) → Keeps (λ _. 1) totals (λ v. nat_lt n v.bytes)
+past_byte_kept n = reached_kept (λ (v : Totals). v.bytes) (λ xs ys. omega (arith, bytes_append xs ys)) (suc n)
+
+pub feeds_kept : (n : ℕ) → Keeps (λ _. 1) totals (λ v. nat_le n v.feeds)
+feeds_kept n = reached_kept (λ (v : Totals). v.feeds) (λ xs ys. omega (arith, feeds_append xs ys)) n

@@ -1,31 +1,28 @@
 // The longest line: the first and the last are open at the ends of the list, those between are not.
-ghost use Rattle.std.specs.Prelude.{◌≡◌, ℕ, max, List, if◌then◌else◌};
+ghost use Rattle.std.specs.Prelude.{◌≡◌, ℕ, List};
 ghost use Rattle.plain.specs.Questions.{longest};
-ghost use Rattle.measures.specs.Lines.{lines};
+ghost use Rattle.measures.specs.Lines.{lines, longest_in};
 
 use crate::Measure;
 
-#[derive(Clone, Copy)]
-pub struct LongestLine {
-    pub has_feed: bool,
-    pub first: u32,
-    pub inner: u32,
-    pub last: u32,
+#[derive(Clone, Copy, PartialEq, Eq)]
+pub enum LongestLine {
+    // No line feed: the one line is open at both ends.
+    Whole(u32),
+    // The lengths of the first line, of the longest between, and of the last.
+    Parted { first: u32, inner: u32, last: u32 },
 }
 
 impl LongestLine {
     pub fn longest(&self) -> u32
-        ensures value { result ≡ max (max self.now.first self.now.inner) self.now.last }
+        ensures value { result ≡ longest_in self.now }
         ensures law { (bs : List ℕ) → self.now ≡ lines bs → result ≡ longest bs }
     {
-        self.first.max(self.inner).max(self.last)
+        match *self {
+            LongestLine::Whole(length) => length,
+            LongestLine::Parted { first, inner, last } => first.max(inner).max(last),
+        }
     }
-}
-
-fn pick(c: bool, x: u32, y: u32) -> u32
-    ensures { result ≡ (if c then x else y) }
-{
-    if c { x } else { y }
 }
 
 impl Measure for LongestLine {
@@ -36,38 +33,59 @@ impl Measure for LongestLine {
     ghost means = { lines };
 
     fn empty() -> LongestLine {
-        LongestLine {
-            has_feed: false,
-            first: 0,
-            inner: 0,
-            last: 0,
-        }
+        LongestLine::Whole(0)
     }
 
     fn one(item: u8) -> LongestLine {
-        let has_feed = item == 0x0A;
-        let length = pick(has_feed, 0, 1);
-        LongestLine {
-            has_feed,
-            first: length,
-            inner: 0,
-            last: length,
+        match item {
+            b'\n' => LongestLine::Parted {
+                first: 0,
+                inner: 0,
+                last: 0,
+            },
+            _ => LongestLine::Whole(1),
         }
     }
 
+    // The last line of `a` goes on in the first of `b`.
+    #[tactic(auto, using(crate::proofs::LineLaws::join_lines))]
     fn join(a: &LongestLine, b: &LongestLine) -> LongestLine {
-        let middle = a.last.saturating_add(b.first);
-        let end = a.last.saturating_add(b.last);
-        let between = pick(a.has_feed & b.has_feed, middle, 0);
-        LongestLine {
-            has_feed: a.has_feed | b.has_feed,
-            first: pick(a.has_feed, a.first, middle),
-            inner: a.inner.max(b.inner).max(between),
-            last: pick(b.has_feed, b.last, end),
+        match (*a, *b) {
+            (LongestLine::Whole(x), LongestLine::Whole(y)) => {
+                LongestLine::Whole(x.saturating_add(y))
+            }
+            (LongestLine::Whole(x), LongestLine::Parted { first, inner, last }) => {
+                LongestLine::Parted {
+                    first: x.saturating_add(first),
+                    inner,
+                    last,
+                }
+            }
+            (LongestLine::Parted { first, inner, last }, LongestLine::Whole(y)) => {
+                LongestLine::Parted {
+                    first,
+                    inner,
+                    last: last.saturating_add(y),
+                }
+            }
+            (
+                LongestLine::Parted { first, inner, last },
+                LongestLine::Parted {
+                    first: next,
+                    inner: more,
+                    last: end,
+                },
+            ) => {
+                LongestLine::Parted {
+                    first,
+                    inner: inner.max(more).max(last.saturating_add(next)),
+                    last: end,
+                }
+            }
         }
     }
 
     fn same(a: &LongestLine, b: &LongestLine) -> bool {
-        a.has_feed == b.has_feed && a.first == b.first && a.inner == b.inner && a.last == b.last
+        a == b
     }
 }

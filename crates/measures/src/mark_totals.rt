@@ -16,7 +16,7 @@ impl Weigh for MarkRow {
     ghost weight = { λ m. m.gap + 1 };
 }
 
-#[derive(Clone, Copy)]
+#[derive(Clone, Copy, PartialEq, Eq)]
 pub struct MarkTotals {
     pub gaps: u32,
     pub count: u32,
@@ -31,6 +31,7 @@ impl MarkTotals {
     }
 }
 
+// Two sums, as those of bytes are, but of other items: a type for both would lose the names of what is summed.
 impl Measure for MarkTotals {
     type Item = MarkRow;
 
@@ -49,6 +50,7 @@ impl Measure for MarkTotals {
         }
     }
 
+    #[tactic(auto, using(crate::specs::MarkLaws::join_marks))]
     fn join(a: &MarkTotals, b: &MarkTotals) -> MarkTotals {
         MarkTotals {
             gaps: a.gaps.saturating_add(b.gaps),
@@ -57,6 +59,6 @@ impl Measure for MarkTotals {
     }
 
     fn same(a: &MarkTotals, b: &MarkTotals) -> bool {
-        a.gaps == b.gaps && a.count == b.count
+        a == b
     }
 }

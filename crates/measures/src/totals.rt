@@ -3,7 +3,7 @@ ghost use Rattle.measures.specs.Totals.{totals};
 
 use crate::Measure;
 
-#[derive(Clone, Copy)]
+#[derive(Clone, Copy, PartialEq, Eq)]
 pub struct Totals {
     pub bytes: u32,
     pub feeds: u32,
@@ -23,10 +23,11 @@ impl Measure for Totals {
     fn one(item: u8) -> Totals {
         Totals {
             bytes: 1,
-            feeds: if item == 0x0A { 1 } else { 0 },
+            feeds: u32::from(item == b'\n'),
         }
     }
 
+    #[tactic(auto, using(crate::specs::TotalsLaws::join_totals))]
     fn join(a: &Totals, b: &Totals) -> Totals {
         Totals {
             bytes: a.bytes.saturating_add(b.bytes),
@@ -35,6 +36,6 @@ impl Measure for Totals {
     }
 
     fn same(a: &Totals, b: &Totals) -> bool {
-        a.bytes == b.bytes && a.feeds == b.feeds
+        a == b
     }
 }

@@ -7,7 +7,7 @@ use Rattle.plain.specs.Machine.{Machine, size, clipped, asked}
 use Rattle.plain.specs.declared.calls.Call.TheVariants as call
 use Rattle.plain.specs.declared.faults.TextFault.{TextFault}
 use Rattle.plain.specs.declared.faults.TextFault.TheVariants as fault
-use Rattle.stores.specs.Stores.{summed}
+use Rattle.stores.specs.Stores.{Contents, summed}
 use Rattle.measures.specs.declared.mark_totals.MarkRow.{MarkRow}
 use Rattle.measures.specs.declared.mark_totals.MarkTotals.{MarkTotals}
 use Rattle.slots.specs.Ghost.{rows}
@@ -45,9 +45,9 @@ module _ {A : Type 0} {am : List ℕ → A} {B : List ℕ} {rs : List (Record Pi
   too_few : (n : ℕ) → n < max (length rs) (length ms) → result_of (first_no (asked m (call.Audit n))) (tt {0}) ≡ Err fault.Slots
   too_few n lt = ap (λ (b : Bool). result_of (first_no ((b, fault.Slots) ∷ [])) (tt {0})) (lt-leb (max m.text_slots m.mark_slots) n (omega (arith, most_slots)))
 
-module _ {A S : Type 0} {am : List ℕ → A} {bytes : S → List ℕ} {capacity reads : S → ℕ} {s s' : S} {rs : List (Record PieceRow (TextValue A))} {ms : List (Record MarkRow MarkTotals)} {h : Head} {scratch scratch' : List ℕ} {m : Machine} {c : ℕ} (mode : Mode)
-    (sp : Spells am mode (bytes s) c rs ms h m) where
-  pub answer_told : (r : Result (Unit {0}) TextFault) → MemoryAudited am bytes capacity reads s s' rs ms h scratch scratch' r → r ≡ result_of (first_no (asked m (call.Audit (length scratch)))) (tt {0})
+module _ {A S : Type 0} {am : List ℕ → A} {contents : S → Contents} {s s' : S} {rs : List (Record PieceRow (TextValue A))} {ms : List (Record MarkRow MarkTotals)} {h : Head} {scratch scratch' : List ℕ} {m : Machine} {c : ℕ} (mode : Mode)
+    (sp : Spells am mode (contents s).bytes c rs ms h m) where
+  pub answer_told : (r : Result (Unit {0}) TextFault) → MemoryAudited am contents s s' rs ms h scratch scratch' r → r ≡ result_of (first_no (asked m (call.Audit (length scratch)))) (tt {0})
   answer_told (Ok u) a = sym (enough mode sp (length scratch) a.outcome.0.enough)
   answer_told (Err fault.Unsound) a = absurd (a.outcome.1 sp.sound)
   answer_told (Err fault.Slots) a = sym (too_few mode sp (length scratch) a.outcome.short)
@@ -58,8 +58,8 @@ module _ {A S : Type 0} {am : List ℕ → A} {bytes : S → List ℕ} {capacity
   answer_told (Err fault.Marks) a = absurd a.outcome
 
   -- each byte of text and clip was read once
-  pub reads_told : {u : Unit {0}} → MemoryAudited am bytes capacity reads s s' rs ms h scratch scratch' (Ok u) → reads s' ≡ summed (reads s) (size m + length (spell m.bytes (clipped m)))
-  reads_told a = a.outcome.1.each_once sp.sound ∙ ap (λ (n : ℕ). summed (reads s) n) (both_sizes mode sp)
+  pub reads_told : {u : Unit {0}} → MemoryAudited am contents s s' rs ms h scratch scratch' (Ok u) → (contents s').reads ≡ summed (contents s).reads (size m + length (spell m.bytes (clipped m)))
+  reads_told a = a.outcome.1.each_once sp.sound ∙ ap (λ (n : ℕ). summed (contents s).reads n) (both_sizes mode sp)
 
-  pub zeros_told : {u : Unit {0}} → MemoryAudited am bytes capacity reads s s' rs ms h scratch scratch' (Ok u) → scratch' ≡ replicate (max m.text_slots m.mark_slots) 0 ++ drop (max m.text_slots m.mark_slots) scratch
+  pub zeros_told : {u : Unit {0}} → MemoryAudited am contents s s' rs ms h scratch scratch' (Ok u) → scratch' ≡ replicate (max m.text_slots m.mark_slots) 0 ++ drop (max m.text_slots m.mark_slots) scratch
   zeros_told a = a.outcome.0.zeros ∙ ap (λ (n : ℕ). replicate n 0 ++ drop n scratch) (sym (most_slots mode sp))

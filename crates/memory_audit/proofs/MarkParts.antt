@@ -14,9 +14,9 @@ use Rattle.slots.specs.declared.records.Unsound.{Unsound}
 use Rattle.slots.specs.declared.records.Tree.{Tree}
 use Rattle.slots.specs.declared.records.Record.{Record}
 use Rattle.slots.proofs.Shapes.{err_only}
-use Rattle.source_audit.specs.Checks.{Rules, rules}
-use Rattle.source_audit.specs.Sound.{rows_trees, FitTrees}
-use Rattle.source_audit.proofs.Roots.{one_tree}
+use Rattle.audit.specs.Checks.{Rules, rules}
+use Rattle.audit.specs.Sound.{rows_trees, FitTrees}
+use Rattle.audit.proofs.Roots.{one_tree}
 use Rattle.pieces.specs.Sound.{itself, mark_mean}
 use Rattle.pieces.specs.declared.head.Head.{Head}
 use Rattle.pieces.proofs.MarkMoves.{flat_itself, mark_weight}

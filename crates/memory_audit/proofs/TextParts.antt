@@ -2,7 +2,7 @@
 use Rattle.std.proofs.Common.{◌≡◌, ℕ, ◌+◌, ◌^◌, ◌<◌, ◌≤◌, true, List, [], ◌∷◌, ◌++◌, length, is_err, Ok, Err, Result, sym, ap, ◌∙◌, subst, ap₂, append-nil, arith, length-append}
 use Rattle.std.specs.List.{AllByRecursion}
 use Rattle.plain.specs.Machine.{limit}
-use Rattle.stores.specs.Stores.{summed}
+use Rattle.stores.specs.Stores.{Contents, summed}
 use Rattle.slots.specs.Ghost.{Finger, occ_list, named, rows}
 use Rattle.slots.specs.Theorems.{occ_trees}
 use Rattle.slots.specs.Post.{TreeValued}
@@ -10,9 +10,9 @@ use Rattle.slots.specs.declared.records.Unsound.{Unsound}
 use Rattle.slots.specs.declared.records.Tree.{Tree}
 use Rattle.slots.specs.declared.records.Record.{Record}
 use Rattle.slots.proofs.Shapes.{err_only}
-use Rattle.source_audit.specs.Checks.{Rules, rules}
-use Rattle.source_audit.specs.Sound.{rows_trees, FitTrees}
-use Rattle.source_audit.proofs.Roots.{two_trees}
+use Rattle.audit.specs.Checks.{Rules, rules}
+use Rattle.audit.specs.Sound.{rows_trees, FitTrees}
+use Rattle.audit.proofs.Roots.{two_trees}
 use Rattle.pieces.specs.Rows.{bytes_of, Good, AllGood, sizes}
 use Rattle.pieces.specs.Sound.{TextValue, text_means, text_mean}
 use Rattle.pieces.specs.declared.rows.PieceRow.{PieceRow}
@@ -23,9 +23,9 @@ use Rattle.memory_audit.specs.Inspected.{Counted, Verdict, Inspected, TextSound,
 use Rattle.memory_audit.proofs.Counting.{limit_small, same_trees}
 use Rattle.memory_audit.proofs.PieceChecks.{run_bytes, run_capacity, run_reads}
 
-module _ {A S : Type 0} (am : List ℕ → A) (bytes : S → List ℕ) (capacity reads : S → ℕ) where
+module _ {A S : Type 0} (am : List ℕ → A) (contents : S → Contents) where
   abbrev pub text_rules : Rules PieceRow ℕ (TextValue A) S
-  text_rules = rules (λ _. 1) (text_means am) (λ s row. bytes_of (bytes s) row) (λ s row. Good (bytes s) row) (PieceRead bytes capacity reads)
+  text_rules = rules (λ _. 1) (text_means am) (λ s row. bytes_of (contents s).bytes row) (λ s row. Good (contents s).bytes row) (PieceRead contents)
 
 abbrev text_roots : Head → List Tree
 text_roots h = h.text ∷ (h.clip ∷ [])
@@ -46,13 +46,13 @@ module _ {V : Type 0} (t k : Finger PieceRow V) where
   two_long : length (rows_trees (t ∷ (k ∷ []))) ≡ length (rows t) + length (rows k)
   two_long = ap length two_rows ∙ length-append (rows t) (rows k)
 
-module _ {A S : Type 0} (am : List ℕ → A) (bytes : S → List ℕ) (capacity reads : S → ℕ) (s : S) (rs : List (Record PieceRow (TextValue A))) (h : Head) where
+module _ {A S : Type 0} (am : List ℕ → A) (contents : S → Contents) (s : S) (rs : List (Record PieceRow (TextValue A))) (h : Head) where
   abbrev CountedText : Type 0
-  CountedText = Counted (text_rules am bytes capacity reads) s rs (text_roots h) h.free h.pieces
+  CountedText = Counted (text_rules am contents) s rs (text_roots h) h.free h.pieces
 
-  to_counted : TextSound am (bytes s) rs h → CountedText
+  to_counted : TextSound am (contents s).bytes rs h → CountedText
   to_counted x =
-      let all : AllGood (bytes s) (rows_trees (x.t ∷ (x.k ∷ []))) = subst (AllGood (bytes s)) (sym (two_rows x.t x.k)) (all_append (bytes s) (rows x.t) (rows x.k) x.good x.good_clip) in
+      let all : AllGood (contents s).bytes (rows_trees (x.t ∷ (x.k ∷ []))) = subst (AllGood (contents s).bytes) (sym (two_rows x.t x.k)) (all_append (contents s).bytes (rows x.t) (rows x.k) x.good x.good_clip) in
       let long = two_long x.t x.k in
       let few = x.laid.few in
       let small = limit_small (length rs) x.laid.most in
@@ -64,9 +64,9 @@ module _ {A S : Type 0} (am : List ℕ → A) (bytes : S → List ℕ) (capacity
           first = x.laid.first;
           fits = (x.laid.fit, (x.laid.fit_clip, tt));
           chained = x.laid.chain;
-          good_rows = every (bytes s) (rows_trees (x.t ∷ (x.k ∷ []))) all;
+          good_rows = every (contents s).bytes (rows_trees (x.t ∷ (x.k ∷ []))) all;
           few = omega arith;
-          light = light (bytes s) (rows_trees (x.t ∷ (x.k ∷ []))) all (omega arith);
+          light = light (contents s).bytes (rows_trees (x.t ∷ (x.k ∷ []))) all (omega arith);
           once = λ i. omega (arith, x.laid.once i);
         };
         least = x.laid.least;
@@ -74,71 +74,71 @@ module _ {A S : Type 0} (am : List ℕ → A) (bytes : S → List ℕ) (capacity
         all = x.pieces ∙ sym long;
       }
 
-  from_counted : CountedText → TextSound am (bytes s) rs h
+  from_counted : CountedText → TextSound am (contents s).bytes rs h
   from_counted c =
       two_trees
-      (λ ts. FitTrees (text_mean am (bytes s)) rs ts → AllByRecursion (Good (bytes s)) (rows_trees ts) → length (rows_trees ts) ≤ limit (length rs) → ((i : ℕ) → occ_trees ts i + occ_list c.sound.chain i ≡ named (length rs) i)
-      → h.pieces ≡ length (rows_trees ts) → TextSound am (bytes s) rs h)
+      (λ ts. FitTrees (text_mean am (contents s).bytes) rs ts → AllByRecursion (Good (contents s).bytes) (rows_trees ts) → length (rows_trees ts) ≤ limit (length rs) → ((i : ℕ) → occ_trees ts i + occ_list c.sound.chain i ≡ named (length rs) i)
+      → h.pieces ≡ length (rows_trees ts) → TextSound am (contents s).bytes rs h)
       (λ t k et ek fits good few once all.
-      let g : AllGood (bytes s) (rows t ++ rows k) = subst (AllGood (bytes s)) (two_rows t k) (all_good (bytes s) (rows_trees (t ∷ (k ∷ []))) good) in
+      let g : AllGood (contents s).bytes (rows t ++ rows k) = subst (AllGood (contents s).bytes) (two_rows t k) (all_good (contents s).bytes (rows_trees (t ∷ (k ∷ []))) good) in
       let long = two_long t k in
       record {
         t = t;
         k = k;
         fs = c.sound.chain;
         laid = record { tree = et; clip = ek; first = c.sound.first; fit = fits.0; fit_clip = fits.1.0; chain = c.sound.chained; once = λ i. omega (arith, once i); few = omega arith; least = c.least; most = c.most };
-        good = all_left (bytes s) (rows t) (rows k) g;
-        good_clip = all_right (bytes s) (rows t) (rows k) g;
+        good = all_left (contents s).bytes (rows t) (rows k) g;
+        good_clip = all_right (contents s).bytes (rows t) (rows k) g;
         pieces = all ∙ long;
       })
       c.sound.trees c.sound.roots_are c.sound.fits c.sound.good_rows c.sound.few c.sound.once c.all
 
-module _ {A S : Type 0} {am : List ℕ → A} {bytes : S → List ℕ} {capacity reads : S → ℕ} {s s' : S} {rs : List (Record PieceRow (TextValue A))} {scratch : List ℕ} {q : Result (Unit {0}) Unsound} (h : Head)
-    (I : Inspected (text_rules am bytes capacity reads) s rs (text_roots h) h.free h.pieces s' scratch q) where
-  same_bytes : bytes s' ≡ bytes s
-  same_bytes = run_bytes bytes capacity reads s s' I.checked I.ran
+module _ {A S : Type 0} {am : List ℕ → A} {contents : S → Contents} {s s' : S} {rs : List (Record PieceRow (TextValue A))} {scratch : List ℕ} {q : Result (Unit {0}) Unsound} (h : Head)
+    (I : Inspected (text_rules am contents) s rs (text_roots h) h.free h.pieces s' scratch q) where
+  same_bytes : (contents s').bytes ≡ (contents s).bytes
+  same_bytes = run_bytes contents s s' I.checked I.ran
 
-  same_capacity : capacity s' ≡ capacity s
-  same_capacity = run_capacity bytes capacity reads s s' I.checked I.ran
+  same_capacity : (contents s').capacity ≡ (contents s).capacity
+  same_capacity = run_capacity contents s s' I.checked I.ran
 
-  pub text_unsound : {e : Unsound} (r : Result ℕ Unsound) → q ≡ Err e → is_err r ≡ true → TextInspected am bytes capacity reads s s' rs h scratch r
+  pub text_unsound : {e : Unsound} (r : Result ℕ Unsound) → q ≡ Err e → is_err r ≡ true → TextInspected am contents s s' rs h scratch r
   text_unsound r bad err = record {
     says = λ long.
-        subst (TextVerdict am bytes capacity reads s s' rs h) (sym (err_only r err)) (λ x.
-        subst (Verdict (text_rules am bytes capacity reads) s rs (text_roots h) h.free h.pieces I.checked) bad (I.says long) (to_counted am bytes capacity reads s rs h x));
+        subst (TextVerdict am contents s s' rs h) (sym (err_only r err)) (λ x.
+        subst (Verdict (text_rules am contents) s rs (text_roots h) h.free h.pieces I.checked) bad (I.says long) (to_counted am contents s rs h x));
     same_bytes = same_bytes;
     same_capacity = same_capacity;
   }
 
   module _ {u : Unit {0}} {p : Result (TextValue A) Unsound} (ok : q ≡ Ok u) (tv : TreeValued (λ _. 1) (text_means am) rs h.text p) where
-    passed : length rs ≤ length scratch → Verdict (text_rules am bytes capacity reads) s rs (text_roots h) h.free h.pieces I.checked (Ok u)
-    passed long = subst (Verdict (text_rules am bytes capacity reads) s rs (text_roots h) h.free h.pieces I.checked) ok (I.says long)
+    passed : length rs ≤ length scratch → Verdict (text_rules am contents) s rs (text_roots h) h.free h.pieces I.checked (Ok u)
+    passed long = subst (Verdict (text_rules am contents) s rs (text_roots h) h.free h.pieces I.checked) ok (I.says long)
 
-    value_is : (x : TextSound am (bytes s) rs h) → p ≡ Ok (text_mean am (bytes s) (rows x.t))
-    value_is x = tv.values (bytes_of (bytes s)) x.t 0 x.laid.tree x.laid.fit
+    value_is : (x : TextSound am (contents s).bytes rs h) → p ≡ Ok (text_mean am (contents s).bytes (rows x.t))
+    value_is x = tv.values (bytes_of (contents s).bytes) x.t 0 x.laid.tree x.laid.fit
 
-    pub text_no_value : {e : Unsound} (r : Result ℕ Unsound) → p ≡ Err e → TextInspected am bytes capacity reads s s' rs h scratch r
+    pub text_no_value : {e : Unsound} (r : Result ℕ Unsound) → p ≡ Err e → TextInspected am contents s s' rs h scratch r
     text_no_value r bad = record {
-      says = λ long. let is = value_is (from_counted am bytes capacity reads s rs h (passed long).0) in absurd (let z : ◌≡◌ {A = ℕ} 0 1 = cc in omega arith);
+      says = λ long. let is = value_is (from_counted am contents s rs h (passed long).0) in absurd (let z : ◌≡◌ {A = ℕ} 0 1 = cc in omega arith);
       same_bytes = same_bytes;
       same_capacity = same_capacity;
     }
 
-    pub text_passed : {v : TextValue A} → ((s : S) → reads s < 2 ^ 64) → p ≡ Ok v → TextInspected am bytes capacity reads s s' rs h scratch (Ok v.left.left.bytes)
+    pub text_passed : {v : TextValue A} → ((s : S) → (contents s).reads < 2 ^ 64) → p ≡ Ok v → TextInspected am contents s s' rs h scratch (Ok v.left.left.bytes)
     unfolding to_counted
     text_passed {v} stops is = record {
       says = λ long. record {
-        sound = from_counted am bytes capacity reads s rs h (passed long).0;
+        sound = from_counted am contents s rs h (passed long).0;
         size = λ x.
-            let same_value_lem : v ≡ text_mean am (bytes s) (rows x.t) = (let w = value_is x in cc) in
-            ap (λ (z : TextValue A). z.left.left.bytes) same_value_lem ∙ flat_size (bytes s) (rows x.t) x.good;
+            let same_value_lem : v ≡ text_mean am (contents s).bytes (rows x.t) = (let w = value_is x in cc) in
+            ap (λ (z : TextValue A). z.left.left.bytes) same_value_lem ∙ flat_size (contents s).bytes (rows x.t) x.good;
         each_once = λ x.
-            let c = to_counted am bytes capacity reads s rs h x in
+            let c = to_counted am contents s rs h x in
             let few : limit (length rs) ≤ 65535 = omega (arith, limit_small (length rs) x.laid.most) in
-            let trees-are = same_trees (text_rules am bytes capacity reads) s rs (text_roots h) few (passed long).0.sound c.sound in
+            let trees-are = same_trees (text_rules am contents) s rs (text_roots h) few (passed long).0.sound c.sound in
             let rows_are : I.checked ≡ rows x.t ++ rows x.k = (passed long).1 ∙ ap rows_trees trees-are ∙ two_rows x.t x.k in
-            let ran = run_reads bytes capacity reads stops s s' I.checked I.ran (subst (AllGood (bytes s)) (sym rows_are) (all_append (bytes s) (rows x.t) (rows x.k) x.good x.good_clip)) in
-            ran ∙ ap (λ (n : ℕ). summed (reads s) n) (ap sizes rows_are ∙ sizes_append (rows x.t) (rows x.k));
+            let ran = run_reads contents stops s s' I.checked I.ran (subst (AllGood (contents s).bytes) (sym rows_are) (all_append (contents s).bytes (rows x.t) (rows x.k) x.good x.good_clip)) in
+            ran ∙ ap (λ (n : ℕ). summed (contents s).reads n) (ap sizes rows_are ∙ sizes_append (rows x.t) (rows x.k));
       };
       same_bytes = same_bytes;
       same_capacity = same_capacity;

@@ -4,6 +4,7 @@ use Rattle.measures.specs.Law.{heaviest}
 use Rattle.measures.specs.MarkTotals.{gaps}
 use Rattle.measures.specs.declared.mark_totals.MarkRow.{MarkRow}
 use Rattle.measures.specs.declared.mark_totals.MarkTotals.{MarkTotals}
+use Rattle.stores.specs.Stores.{Contents}
 use Rattle.slots.specs.Ghost.{rows}
 use Rattle.slots.specs.declared.records.Unsound.{Unsound}
 use Rattle.slots.specs.declared.records.Record.{Record}
@@ -33,42 +34,42 @@ module _ {A : Type 0} {am : List ℕ → A} {B : List ℕ} {rs : List (Record Pi
       let ends = so.ends in
       omega arith
 
-module _ {A S : Type 0} {am : List ℕ → A} {bytes : S → List ℕ} {capacity reads : S → ℕ} {s s' : S} {rs : List (Record PieceRow (TextValue A))} {h : Head} {scratch : List ℕ} {q : Result ℕ Unsound}
-    (T : TextInspected am bytes capacity reads s s' rs h scratch q) where
-  pub no_text : {ms : List (Record MarkRow MarkTotals)} {e : Unsound} (r : Result (Unit {0}) Unsound) → q ≡ Err e → is_err r ≡ true → MemoryInspected am bytes capacity reads s s' rs ms h scratch r
+module _ {A S : Type 0} {am : List ℕ → A} {contents : S → Contents} {s s' : S} {rs : List (Record PieceRow (TextValue A))} {h : Head} {scratch : List ℕ} {q : Result ℕ Unsound}
+    (T : TextInspected am contents s s' rs h scratch q) where
+  pub no_text : {ms : List (Record MarkRow MarkTotals)} {e : Unsound} (r : Result (Unit {0}) Unsound) → q ≡ Err e → is_err r ≡ true → MemoryInspected am contents s s' rs ms h scratch r
   no_text {ms} r bad err = record {
     says = λ long.
-        subst (MemoryVerdict am bytes capacity reads s s' rs ms h) (sym (err_only r err)) (λ so.
-        subst (TextVerdict am bytes capacity reads s s' rs h) bad (T.says (omega arith)) (text_part so));
+        subst (MemoryVerdict am contents s s' rs ms h) (sym (err_only r err)) (λ so.
+        subst (TextVerdict am contents s s' rs h) bad (T.says (omega arith)) (text_part so));
     same_bytes = T.same_bytes;
     same_capacity = T.same_capacity;
   }
 
   module _ {ms : List (Record MarkRow MarkTotals)} {scratch₁ : List ℕ} {p : Result ℕ Unsound} (same-long : length scratch₁ ≡ length scratch) (M : MarksInspected ms h scratch₁ p) where
-    pub no_marks : {e : Unsound} (r : Result (Unit {0}) Unsound) → p ≡ Err e → is_err r ≡ true → MemoryInspected am bytes capacity reads s s' rs ms h scratch r
+    pub no_marks : {e : Unsound} (r : Result (Unit {0}) Unsound) → p ≡ Err e → is_err r ≡ true → MemoryInspected am contents s s' rs ms h scratch r
     no_marks r bad err = record {
       says = λ long.
-          subst (MemoryVerdict am bytes capacity reads s s' rs ms h) (sym (err_only r err)) (λ so.
+          subst (MemoryVerdict am contents s s' rs ms h) (sym (err_only r err)) (λ so.
           subst (MarksVerdict ms h) bad (M.says (omega arith)) (mark_part so) (near so));
       same_bytes = T.same_bytes;
       same_capacity = T.same_capacity;
     }
 
     module _ {size last : ℕ} (text-is : q ≡ Ok size) (marks_are : p ≡ Ok last) where
-      text_passed : length rs ≤ length scratch → TextPassed am bytes capacity reads s s' rs h size
-      text_passed long = subst (TextVerdict am bytes capacity reads s s' rs h) text-is (T.says long)
+      text_passed : length rs ≤ length scratch → TextPassed am contents s s' rs h size
+      text_passed long = subst (TextVerdict am contents s s' rs h) text-is (T.says long)
 
       marks_passed : length ms ≤ length scratch₁ → MarksPassed ms h last
       marks_passed long = subst (MarksVerdict ms h) marks_are (M.says long)
 
-      pub mark_past_end : {e : Unsound} → size < last → MemoryInspected am bytes capacity reads s s' rs ms h scratch (Err e)
+      pub mark_past_end : {e : Unsound} → size < last → MemoryInspected am contents s s' rs ms h scratch (Err e)
       mark_past_end past = record {
         says = λ long so. omega (arith, so.ends, (text_passed (omega arith)).size (text_part so), (marks_passed (omega arith)).last (mark_part so));
         same_bytes = T.same_bytes;
         same_capacity = T.same_capacity;
       }
 
-      pub all_sound : {u : Unit {0}} → last ≤ size → MemoryInspected am bytes capacity reads s s' rs ms h scratch (Ok u)
+      pub all_sound : {u : Unit {0}} → last ≤ size → MemoryInspected am contents s s' rs ms h scratch (Ok u)
       all_sound within = record {
         says = λ long.
             let t = text_passed (omega arith) in

@@ -1,19 +1,19 @@
 -- What the functions below the audit of a memory promise of its parts.
 use Rattle.std.specs.Prelude.{◌≡◌, ℕ, ◌+◌, ◌≤◌, max, List, length, Ok, Err, Result}
 use Rattle.plain.specs.Machine.{limit}
-use Rattle.stores.specs.Stores.{summed}
+use Rattle.stores.specs.Stores.{Contents, summed}
 use Rattle.measures.specs.Law.{heaviest}
 use Rattle.measures.specs.MarkTotals.{gaps}
 use Rattle.measures.specs.declared.mark_totals.MarkRow.{MarkRow}
 use Rattle.measures.specs.declared.mark_totals.MarkTotals.{MarkTotals}
 use Rattle.slots.specs.Ghost.{Finger, rows}
 use Rattle.slots.specs.declared.records.Unsound.{Unsound}
-use Rattle.slots.specs.declared.records.Link.{Link}
+use Rattle.slots.specs.Words.{Link}
 use Rattle.slots.specs.declared.records.Tree.{Tree}
 use Rattle.slots.specs.declared.records.Record.{Record}
-use Rattle.source_audit.specs.Checks.{Rules, Run}
-use Rattle.source_audit.specs.Sound.{rows_trees}
-use Rattle.source_audit.specs.Post.{SoundTo}
+use Rattle.audit.specs.Checks.{Rules, Run}
+use Rattle.audit.specs.Sound.{rows_trees}
+use Rattle.audit.specs.Post.{SoundTo}
 use Rattle.pieces.specs.Rows.{AllGood, sizes}
 use Rattle.pieces.specs.Sound.{TextValue, text_mean, mark_mean, Laid, LaidTwo, Sound}
 use Rattle.pieces.specs.declared.rows.PieceRow.{PieceRow}
@@ -54,21 +54,21 @@ pub record MarksSound (ms : List (Record MarkRow MarkTotals)) (h : Head) : Type 
   pub laid : Laid mark_mean ms h.free_marks h.marks u gs
   pub count : h.mark_count ≡ length (rows u)
 
-module _ {A S : Type 0} (am : List ℕ → A) (bytes : S → List ℕ) (capacity reads : S → ℕ) (s s' : S) (rs : List (Record PieceRow (TextValue A))) (h : Head) where
+module _ {A S : Type 0} (am : List ℕ → A) (contents : S → Contents) (s s' : S) (rs : List (Record PieceRow (TextValue A))) (h : Head) where
   -- n is the size of the text
   pub record TextPassed (n : ℕ) : Type 0 where
-    pub sound : TextSound am (bytes s) rs h
-    pub size : (x : TextSound am (bytes s) rs h) → n ≡ sizes (rows x.t)
-    pub each_once : (x : TextSound am (bytes s) rs h) → reads s' ≡ summed (reads s) (sizes (rows x.t) + sizes (rows x.k))
+    pub sound : TextSound am (contents s).bytes rs h
+    pub size : (x : TextSound am (contents s).bytes rs h) → n ≡ sizes (rows x.t)
+    pub each_once : (x : TextSound am (contents s).bytes rs h) → (contents s').reads ≡ summed (contents s).reads (sizes (rows x.t) + sizes (rows x.k))
 
   abbrev pub TextVerdict : Result ℕ Unsound → Type 0
   TextVerdict (Ok n) = TextPassed n
-  TextVerdict (Err e) = TextSound am (bytes s) rs h → ⊥
+  TextVerdict (Err e) = TextSound am (contents s).bytes rs h → ⊥
 
   pub record TextInspected (scratch : List ℕ) (r : Result ℕ Unsound) : Type 0 where
     pub says : length rs ≤ length scratch → TextVerdict r
-    pub same_bytes : bytes s' ≡ bytes s
-    pub same_capacity : capacity s' ≡ capacity s
+    pub same_bytes : (contents s').bytes ≡ (contents s).bytes
+    pub same_capacity : (contents s').capacity ≡ (contents s).capacity
 
 module _ (ms : List (Record MarkRow MarkTotals)) (h : Head) where
   -- n is the offset of the last mark
@@ -84,12 +84,12 @@ module _ (ms : List (Record MarkRow MarkTotals)) (h : Head) where
   pub record MarksInspected (scratch : List ℕ) (r : Result ℕ Unsound) : Type 0 where
     pub says : length ms ≤ length scratch → MarksVerdict r
 
-module _ {A S : Type 0} (am : List ℕ → A) (bytes : S → List ℕ) (capacity reads : S → ℕ) (s s' : S) (rs : List (Record PieceRow (TextValue A))) (ms : List (Record MarkRow MarkTotals)) (h : Head) where
+module _ {A S : Type 0} (am : List ℕ → A) (contents : S → Contents) (s s' : S) (rs : List (Record PieceRow (TextValue A))) (ms : List (Record MarkRow MarkTotals)) (h : Head) where
   abbrev pub MemoryVerdict : Result (Unit {0}) Unsound → Type 0
-  MemoryVerdict (Ok u) = Passed am bytes capacity reads s s' rs ms h
-  MemoryVerdict (Err e) = Sound am (bytes s) rs ms h → ⊥
+  MemoryVerdict (Ok u) = Passed am contents s s' rs ms h
+  MemoryVerdict (Err e) = Sound am (contents s).bytes rs ms h → ⊥
 
   pub record MemoryInspected (scratch : List ℕ) (r : Result (Unit {0}) Unsound) : Type 0 where
     pub says : max (length rs) (length ms) ≤ length scratch → MemoryVerdict r
-    pub same_bytes : bytes s' ≡ bytes s
-    pub same_capacity : capacity s' ≡ capacity s
+    pub same_bytes : (contents s').bytes ≡ (contents s).bytes
+    pub same_capacity : (contents s').capacity ≡ (contents s).capacity

@@ -1,8 +1,8 @@
 -- What the check of a piece promises.
 use Rattle.std.specs.Prelude.{◌≡◌, ℕ, List, Result}
-use Rattle.stores.specs.Stores.{summed}
+use Rattle.stores.specs.Stores.{Contents, summed}
 use Rattle.slots.specs.declared.records.Unsound.{Unsound}
-use Rattle.source_audit.specs.Checks.{Judged}
+use Rattle.audit.specs.Checks.{Judged}
 use Rattle.pieces.specs.Rows.{bytes_of, Good}
 use Rattle.pieces.specs.declared.rows.PieceRow.{PieceRow}
 use Rattle.pieces.specs.declared.piece.Piece as code
@@ -13,14 +13,14 @@ pub record InStore (B : List ℕ) (x : PieceRow) (p : code.Piece) : Type 0 where
   pub length_is : p.length ≡ x.length
   pub good : Good B x
 
-module _ {S : Type 0} (bytes : S → List ℕ) (capacity reads : S → ℕ) where
+module _ {S : Type 0} (contents : S → Contents) where
   -- from s to s' by the check of a row: each byte of a good one is read once
   pub record PieceRead (s : S) (x : PieceRow) (s' : S) : Type 0 where
-    pub counts : Good (bytes s) x → reads s' ≡ summed (reads s) x.length
-    pub same_bytes : bytes s' ≡ bytes s
-    pub same_capacity : capacity s' ≡ capacity s
+    pub counts : Good (contents s).bytes x → (contents s').reads ≡ summed (contents s).reads x.length
+    pub same_bytes : (contents s').bytes ≡ (contents s).bytes
+    pub same_capacity : (contents s').capacity ≡ (contents s).capacity
 
-module _ {S V : Type 0} (means : List ℕ → V) (bytes : S → List ℕ) (capacity reads : S → ℕ) where
+module _ {S V : Type 0} (means : List ℕ → V) (contents : S → Contents) where
   pub record PieceChecked (s : S) (x : PieceRow) (v : V) (r : Result ℕ Unsound) (s' : S) : Type 0 where
-    pub judged : Judged (λ _. 1) means (bytes_of (bytes s)) (Good (bytes s)) x v r
-    pub read_once : PieceRead bytes capacity reads s x s'
+    pub judged : Judged (λ _. 1) means (bytes_of (contents s).bytes) (Good (contents s).bytes) x v r
+    pub read_once : PieceRead contents s x s'

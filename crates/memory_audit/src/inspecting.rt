@@ -1,8 +1,10 @@
 // The slots of each slice by themselves: trees, chain and count.
-ghost use Rattle.source_audit.specs.Checks.{rules};
+ghost use Rattle.audit.specs.Checks.{rules};
 ghost use Rattle.memory_audit.specs.Inspected.{Inspected, TextInspected, MarksInspected};
 
 use crate::leaves::{AnyMark, InsideStore};
+use audit::audit;
+use audit::leaves::LeafCheck;
 use measures::Measure;
 use measures::mark_totals::{MarkRow, MarkTotals};
 use pieces::head::{Head, MarkRecord, TextMeasure, TextRecord};
@@ -11,8 +13,6 @@ use pieces::rows::PieceRow;
 use slots::arena::WATCHED;
 use slots::records::{Link, Record, Tree, Unsound};
 use slots::values::tree_value;
-use source_audit::audit;
-use source_audit::leaves::LeafCheck;
 use stores::Store;
 
 // Whether there are as many slots as a text may be lent, and the trees are sound in them and have so many elements.
@@ -26,22 +26,17 @@ fn inspect<R: Copy, M: Measure, S, L: LeafCheck<R, M, S>>(
 ) -> Result<(), Unsound>
     ensures { Inspected (rules M.Item.Weigh.weight M.Measure.means L.LeafCheck.items L.LeafCheck.good L.LeafCheck.checks) source.old slots.now roots.now free count source.new scratch.old result }
 {
-    if slots.len() < LEAST_SLOTS {
-        return Err(Unsound);
-    }
-    if slots.len() > WATCHED as usize {
+    if !(LEAST_SLOTS..=usize::from(WATCHED)).contains(&slots.len()) {
         return Err(Unsound);
     }
     let most = limit(slots.len()) as u16;
-    match audit::<R, M, S, L>(slots, roots, free, most, scratch, source) {
-        Ok(elements) => {
-            if elements as u32 == count {
-                Ok(())
-            } else {
-                Err(Unsound)
-            }
-        }
-        Err(_) => Err(Unsound),
+    let Ok(elements) = audit::<R, M, S, L>(slots, roots, free, most, scratch, source) else {
+        return Err(Unsound);
+    };
+    if u32::from(elements) == count {
+        Ok(())
+    } else {
+        Err(Unsound)
     }
 }
 
@@ -52,7 +47,7 @@ pub fn inspect_text<S: Store, A: Measure<Item = u8>>(
     head: &Head,
     scratch: &mut [u8],
 ) -> Result<u32, Unsound>
-    ensures { TextInspected A.Measure.means S.Store.bytes S.Store.capacity S.Store.reads store.old store.new slots.now head.now scratch.old result }
+    ensures { TextInspected A.Measure.means S.Store.contents store.old store.new slots.now head.now scratch.old result }
 {
     let roots = [head.text, head.clip];
     inspect::<PieceRow, TextMeasure<A>, S, InsideStore>(

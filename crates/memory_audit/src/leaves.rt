@@ -4,28 +4,22 @@ ghost use Rattle.pieces.specs.Rows.{bytes_of, Good};
 ghost use Rattle.pieces.specs.Sound.{itself};
 ghost use Rattle.memory_audit.specs.Leaves.{InStore, PieceChecked, PieceRead};
 
+use audit::leaves::LeafCheck;
 use measures::Measure;
 use measures::mark_totals::{MarkRow, MarkTotals};
 use pieces::measuring::measure_piece;
 use pieces::piece::Piece;
 use pieces::rows::PieceRow;
 use slots::records::Unsound;
-use source_audit::leaves::LeafCheck;
 use stores::Store;
 
 // The piece that the row makes, if it lies inside the store.
 fn piece_in<S: Store>(store: &S, row: PieceRow) -> Option<Piece>
-    ensures { MatchOption result (Good (S.Store.bytes store.now) row → ⊥) (InStore (S.Store.bytes store.now) row) }
+    ensures { MatchOption result (Good (S.Store.contents store.now).bytes row → ⊥) (InStore (S.Store.contents store.now).bytes row) }
 {
-    match row.piece() {
-        Some(piece) => {
-            if piece.address + piece.length as u32 > store.len() {
-                return None;
-            }
-            Some(piece)
-        }
-        None => None,
-    }
+    let piece = row.piece()?;
+    let end = piece.address + u32::from(piece.length);
+    (end <= store.len()).then_some(piece)
 }
 
 // Reads a good piece, each byte once, and no other.
@@ -34,18 +28,14 @@ fn check_piece<S: Store, M: Measure<Item = u8>>(
     row: PieceRow,
     value: &M::Value,
 ) -> Result<u64, Unsound>
-    ensures { PieceChecked M.Measure.means S.Store.bytes S.Store.capacity S.Store.reads store.old row value.now result store.new }
+    ensures { PieceChecked M.Measure.means S.Store.contents store.old row value.now result store.new }
 {
-    match piece_in(store, row) {
-        Some(piece) => {
-            let found = measure_piece::<S, M>(store, piece)?;
-            if M::same(&found, value) {
-                Ok(piece.length as u64)
-            } else {
-                Err(Unsound)
-            }
-        }
-        None => Err(Unsound),
+    let piece = piece_in(store, row).ok_or(Unsound)?;
+    let found = measure_piece::<S, M>(store, piece)?;
+    if M::same(&found, value) {
+        Ok(u64::from(piece.length))
+    } else {
+        Err(Unsound)
     }
 }
 
@@ -54,11 +44,11 @@ fn check_piece<S: Store, M: Measure<Item = u8>>(
 pub struct InsideStore;
 
 impl<S: Store, M: Measure<Item = u8>> LeafCheck<PieceRow, M, S> for InsideStore {
-    ghost items = { λ s row. bytes_of (S.Store.bytes s) row };
+    ghost items = { λ s row. bytes_of (S.Store.contents s).bytes row };
 
-    ghost good = { λ s row. Good (S.Store.bytes s) row };
+    ghost good = { λ s row. Good (S.Store.contents s).bytes row };
 
-    ghost checks = { PieceRead S.Store.bytes S.Store.capacity S.Store.reads };
+    ghost checks = { PieceRead S.Store.contents };
 
     fn check(store: &mut S, row: PieceRow, value: &M::Value) -> Result<u64, Unsound> {
         check_piece::<S, M>(store, row, value)
@@ -78,7 +68,7 @@ impl LeafCheck<MarkRow, MarkTotals, ()> for AnyMark {
 
     fn check(_: &mut (), row: MarkRow, value: &MarkTotals) -> Result<u64, Unsound> {
         if MarkTotals::same(&MarkTotals::one(row), value) {
-            Ok(row.gap as u64 + 1)
+            Ok(u64::from(row.gap) + 1)
         } else {
             Err(Unsound)
         }

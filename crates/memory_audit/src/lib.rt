@@ -6,7 +6,6 @@ ghost use Rattle.memory_audit.specs.MemoryAudited.{MemoryAudited};
 
 use crate::inspecting::{inspect_marks, inspect_text};
 use measures::Measure;
-use pieces::faults::sound;
 use pieces::head::{Head, MarkRecord, TextRecord};
 use plain::faults::TextFault;
 use slots::records::Unsound;
@@ -23,7 +22,7 @@ fn inspect_memory<S: Store, A: Measure<Item = u8>>(
     head: &Head,
     scratch: &mut [u8],
 ) -> Result<(), Unsound>
-    ensures { MemoryInspected A.Measure.means S.Store.bytes S.Store.capacity S.Store.reads store.old store.new slots.now marks.now head.now scratch.old result }
+    ensures { MemoryInspected A.Measure.means S.Store.contents store.old store.new slots.now marks.now head.now scratch.old result }
 {
     let size = inspect_text::<S, A>(slots, store, head, scratch)?;
     let last = inspect_marks(marks, head, scratch)?;
@@ -42,7 +41,7 @@ pub fn audit_memory<S: Store, A: Measure<Item = u8>>(
     head: &Head,
     scratch: &mut [u8],
 ) -> Result<(), TextFault>
-    ensures { MemoryAudited A.Measure.means S.Store.bytes S.Store.capacity S.Store.reads store.old store.new slots.now marks.now head.now scratch.old scratch.new result }
+    ensures { MemoryAudited A.Measure.means S.Store.contents store.old store.new slots.now marks.now head.now scratch.old scratch.new result }
 {
     let larger = slots.len().max(marks.len());
     if scratch.len() < larger {
@@ -51,5 +50,5 @@ pub fn audit_memory<S: Store, A: Measure<Item = u8>>(
     let front = &mut scratch[0..larger];
     let found = inspect_memory::<S, A>(slots, marks, store, head, front);
     front.fill(0);
-    sound(found)
+    Ok(found?)
 }

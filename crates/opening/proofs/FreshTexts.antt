@@ -8,10 +8,11 @@ use Rattle.plain.specs.declared.faults.TextFault.{TextFault}
 use Rattle.plain.specs.declared.faults.TextFault.TheVariants as fault
 use Rattle.measures.specs.declared.mark_totals.MarkRow.{MarkRow}
 use Rattle.measures.specs.declared.mark_totals.MarkTotals.{MarkTotals}
+use Rattle.stores.specs.Stores.{Contents}
 use Rattle.slots.specs.Ghost.{nil, same, named, occ_list, head_of, tree_of, rows, Chain}
 use Rattle.slots.specs.Post.{counting, LaidOut}
 use Rattle.slots.specs.declared.records.Unsound.{Unsound}
-use Rattle.slots.specs.declared.records.Link.{Link}
+use Rattle.slots.specs.Words.{Link}
 use Rattle.slots.specs.declared.records.Tree.{Tree}
 use Rattle.slots.specs.declared.records.Tree.TheVariants.{Empty}
 use Rattle.slots.specs.declared.records.Record.{Record}
@@ -89,10 +90,15 @@ machine_same a b c d e = cc
 too_few : {u v : ℕ} → 130 ≤ u → 130 ≤ v → (u < 130) ⊎ (v < 130) → ⊥
 too_few hu hv few = ⊎_elim (λ lt. omega arith) (λ lt. omega arith) few
 
-module _ {A S : Type 0} {am : List ℕ → A} {bytes : S → List ℕ} {capacity reads : S → ℕ} {s : S} {rs : List (Record PieceRow (TextValue A))} {ms : List (Record MarkRow MarkTotals)} where
-  pub open_few_slots : (length rs < 130) ⊎ (length ms < 130) → Opens am bytes capacity reads s s rs rs ms ms (Err fault.Slots)
+-- the slots as the arena left them
+pub opens_at : {A S : Type 0} {am : List ℕ → A} {contents : S → Contents} {s s' : S} {rs rs₁ rs' : List (Record PieceRow (TextValue A))} {ms ms' : List (Record MarkRow MarkTotals)} {r : Result Head TextFault}
+    → rs₁ ≡ rs' → Opens am contents s s' rs rs₁ ms ms' r → Opens am contents s s' rs rs' ms ms' r
+opens_at {am = am} {contents} {s} {s'} {rs} {ms = ms} {ms'} {r} is made = subst (λ q. Opens am contents s s' rs q ms ms' r) is made
+
+module _ {A S : Type 0} {am : List ℕ → A} {contents : S → Contents} {s : S} {rs : List (Record PieceRow (TextValue A))} {ms : List (Record MarkRow MarkTotals)} where
+  pub open_few_slots : (length rs < 130) ⊎ (length ms < 130) → Opens am contents s s rs rs ms ms (Err fault.Slots)
   open_few_slots few = record {
-    outcome = subst (λ o. Outcome am bytes capacity reads o s s rs rs ms ms (Err fault.Slots)) (sym (asked_slots (bytes s) (length rs) (length ms) few)) (refl, record { slots = refl; marks = refl; same_reads = refl });
+    outcome = subst (λ o. Outcome am contents o s s rs rs ms ms (Err fault.Slots)) (sym (asked_slots (contents s).bytes (length rs) (length ms) few)) (refl, record { slots = refl; marks = refl; same_reads = refl });
     same_bytes = refl;
     same_capacity = refl;
     few_slots = λ _. (fault.Slots, refl, refl);
@@ -100,12 +106,12 @@ module _ {A S : Type 0} {am : List ℕ → A} {bytes : S → List ℕ} {capacity
     within = λ hu hv _ _ _. absurd (too_few hu hv few);
   }
 
-  module _ {n l : ℕ} (hu : 130 ≤ length rs) (hv : 130 ≤ length ms) (n-is : n ≡ length (bytes s)) (l-is : l ≡ limit (watched (length rs))) where
-    pub open_many_bytes : 256 * l < n → Opens am bytes capacity reads s s rs rs ms ms (Err fault.Pieces)
+  module _ {n l : ℕ} (hu : 130 ≤ length rs) (hv : 130 ≤ length ms) (n-is : n ≡ length (contents s).bytes) (l-is : l ≡ limit (watched (length rs))) where
+    pub open_many_bytes : 256 * l < n → Opens am contents s s rs rs ms ms (Err fault.Pieces)
     open_many_bytes lt =
-        let heavy : 256 * limit (watched (length rs)) < length (bytes s) = omega arith in
+        let heavy : 256 * limit (watched (length rs)) < length (contents s).bytes = omega arith in
         record {
-          outcome = subst (λ o. Outcome am bytes capacity reads o s s rs rs ms ms (Err fault.Pieces)) (sym (asked_pieces (bytes s) (length rs) (length ms) hu hv heavy)) (refl, record { slots = refl; marks = refl; same_reads = refl });
+          outcome = subst (λ o. Outcome am contents o s s rs rs ms ms (Err fault.Pieces)) (sym (asked_pieces (contents s).bytes (length rs) (length ms) hu hv heavy)) (refl, record { slots = refl; marks = refl; same_reads = refl });
           same_bytes = refl;
           same_capacity = refl;
           few_slots = λ few. absurd (too_few hu hv few);
@@ -115,22 +121,22 @@ module _ {A S : Type 0} {am : List ℕ → A} {bytes : S → List ℕ} {capacity
 
     -- both slices are laid out, and the text's is filled
     module _ {s' : S} {rs₁ rs' : List (Record PieceRow (TextValue A))} {ms' : List (Record MarkRow MarkTotals)} {f f' e : Link} {r : Result Tree Unsound} (le : n ≤ 256 * l)
-        (L : LaidOut rs rs₁ f) (K : LaidOut ms ms' e) (F : Filled (text_means am) bytes capacity reads s s' rs₁ rs' f f' r) where
-      asked : first_no (open_asked (bytes s) (length rs) (length ms)) ≡ None
-      asked = asked_all (bytes s) (length rs) (length ms) hu hv (omega arith)
+        (L : LaidOut rs rs₁ f) (K : LaidOut ms ms' e) (F : Filled (text_means am) contents s s' rs₁ rs' f f' r) where
+      asked : first_no (open_asked (contents s).bytes (length rs) (length ms)) ≡ None
+      asked = asked_all (contents s).bytes (length rs) (length ms) hu hv (omega arith)
 
-      fillable : Watched rs → Fillable (text_means am) bytes capacity reads s rs₁ f (counting 0 (length rs))
+      fillable : Watched rs → Fillable (text_means am) contents s rs₁ f (counting 0 (length rs))
       fillable wr = record {
         holding = record { laid = laid_fresh L hu wr; good = tt };
         room = omega (arith, L.len);
       }
 
-      built : Watched rs → Built (text_means am) (bytes s) rs₁ rs' f' r (blocks 0 (length (bytes s) / 256) (length (bytes s) % 256))
+      built : Watched rs → Built (text_means am) (contents s).bytes rs₁ rs' f' r (blocks 0 (length (contents s).bytes / 256) (length (contents s).bytes % 256))
       built wr = F.fills (counting 0 (length rs)) (fillable wr)
 
-      pub open_unsound : {x : Unsound} → r ≡ Err x → Opens am bytes capacity reads s s' rs rs' ms ms' (Err fault.Unsound)
-      open_unsound bad = record {
-        outcome = subst (λ o. Outcome am bytes capacity reads o s s' rs rs' ms ms' (Err fault.Unsound)) (sym asked) (λ wr wm. absurd (ok_err (built wr).ok bad));
+      pub open_unsound : {x : Unsound} {o : Result Head TextFault} → r ≡ Err x → Opens am contents s s' rs rs' ms ms' o
+      open_unsound {o = o} bad = record {
+        outcome = subst (λ f. Outcome am contents f s s' rs rs' ms ms' o) (sym asked) (λ wr wm. absurd (ok_err (built wr).ok bad));
         same_bytes = F.same_bytes;
         same_capacity = F.same_capacity;
         few_slots = λ few. absurd (too_few hu hv few);
@@ -142,11 +148,11 @@ module _ {A S : Type 0} {am : List ℕ → A} {bytes : S → List ℕ} {capacity
         abbrev head : Head
         head = record { text = tr; clip = Empty; free = f'; pieces = d; marks = Empty; free_marks = e; mark_count = 0 }
 
-        spelled : Watched rs → Watched ms → Spells am whole (bytes s') (capacity s') rs' ms' head (fresh (bytes s) (capacity s) (length rs) (length ms))
+        spelled : Watched rs → Watched ms → Spells am whole (contents s').bytes (contents s').capacity rs' ms' head (fresh (contents s).bytes (contents s).capacity (length rs) (length ms))
         spelled wr wm =
             let Z = built wr in
-            let H : Holding (text_means am) (bytes s') rs' f' (tree_of Z.t) Z.t Z.fs = subst (λ (B : List ℕ). Holding (text_means am) B rs' f' (tree_of Z.t) Z.t Z.fs) (sym F.same_bytes) Z.holding in
-            let count : d ≡ length (rows Z.t) = omega (arith, length_map piece_of (rows Z.t), ap length Z.pieces_are, blocks_count 0 (length (bytes s) / 256) (length (bytes s) % 256)) in
+            let H : Holding (text_means am) (contents s').bytes rs' f' (tree_of Z.t) Z.t Z.fs = subst (λ (B : List ℕ). Holding (text_means am) B rs' f' (tree_of Z.t) Z.t Z.fs) (sym F.same_bytes) Z.holding in
+            let count : d ≡ length (rows Z.t) = omega (arith, length_map piece_of (rows Z.t), ap length Z.pieces_are, blocks_count 0 (length (contents s).bytes / 256) (length (contents s).bytes % 256)) in
             record {
               sound = record {
                 t = Z.t;
@@ -177,9 +183,9 @@ module _ {A S : Type 0} {am : List ℕ → A} {bytes : S → List ℕ} {capacity
               machine = machine_same (sym F.same_bytes) (sym F.same_capacity) (omega (arith, Z.len, L.len)) (omega (arith, K.len)) (sym Z.pieces_are);
             }
 
-        pub opened : Opens am bytes capacity reads s s' rs rs' ms ms' (Ok head)
+        pub opened : Opens am contents s s' rs rs' ms ms' (Ok head)
         opened = record {
-          outcome = subst (λ o. Outcome am bytes capacity reads o s s' rs rs' ms ms' (Ok head)) (sym asked) (λ wr wm. (
+          outcome = subst (λ o. Outcome am contents o s s' rs rs' ms ms' (Ok head)) (sym asked) (λ wr wm. (
             head,
             refl,
             record {

@@ -7,8 +7,9 @@ use crate::filling::{BLOCK, fill};
 use measures::Measure;
 use pieces::head::{Head, MarkRecord, TextMeasure, TextRecord};
 use pieces::limits::{LEAST_SLOTS, limit};
+use pieces::rows::PieceRow;
 use plain::faults::TextFault;
-use slots::arena::lay_out;
+use slots::arena::{Arena, lay_out};
 use slots::records::Tree;
 use stores::Store;
 
@@ -20,7 +21,7 @@ pub fn open<S: Store, A: Measure<Item = u8>>(
     marks: &mut [MarkRecord],
     store: &mut S,
 ) -> Result<Head, TextFault>
-    ensures { Opens A.Measure.means S.Store.bytes S.Store.capacity S.Store.reads store.old store.new slots.old slots.new marks.old marks.new result }
+    ensures { Opens A.Measure.means S.Store.contents store.old store.new slots.old slots.new marks.old marks.new result }
 {
     if slots.len() < LEAST_SLOTS || marks.len() < LEAST_SLOTS {
         return Err(TextFault::Slots);
@@ -29,18 +30,17 @@ pub fn open<S: Store, A: Measure<Item = u8>>(
     if length > BLOCK * limit(slots.len()) {
         return Err(TextFault::Pieces);
     }
-    let mut free = lay_out(slots);
+    let free = lay_out(slots);
     let free_marks = lay_out(marks);
-    match fill::<S, TextMeasure<A>>(slots, &mut free, store) {
-        Ok(text) => Ok(Head {
-            text,
-            clip: Tree::Empty,
-            free,
-            pieces: length.div_ceil(BLOCK),
-            marks: Tree::Empty,
-            free_marks,
-            mark_count: 0,
-        }),
-        Err(_) => Err(TextFault::Unsound),
-    }
+    let mut arena: Arena<PieceRow, TextMeasure<A>> = Arena { slots, free };
+    let text = fill(&mut arena, store)?;
+    Ok(Head {
+        text,
+        clip: Tree::Empty,
+        free: arena.free,
+        pieces: length.div_ceil(BLOCK),
+        marks: Tree::Empty,
+        free_marks,
+        mark_count: 0,
+    })
 }

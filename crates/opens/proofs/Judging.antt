@@ -15,13 +15,12 @@ use Rattle.slots.proofs.Weights.{flat_append}
 use Rattle.pieces.specs.Sound.{TextValue, text_means}
 use Rattle.pieces.specs.declared.rows.PieceRow.{PieceRow}
 use Rattle.bracket_questions.specs.Waiting.{waited}
-use Rattle.opens.specs.Parts.{part_from_slot, found_only, held_by}
-use Rattle.opens.specs.Walks.{Aim, Stands, Lies, Heads, Placed, Entered, Visited}
+use Rattle.opens.specs.Parts.{part_from_slot, held_by}
+use Rattle.opens.specs.Walks.{Aim, Stands, Heads, Placed, Entered, Visited}
 use Rattle.opens.specs.declared.parts.Start.{Start}
 use Rattle.opens.specs.declared.parts.Part.{Part}
-use Rattle.opens.specs.declared.parts.Held.{Held}
 use Rattle.opens.specs.declared.parts.Back.{Back}
-use Rattle.opens.specs.declared.parts.Back.TheVariants.{At, Before}
+use Rattle.opens.specs.declared.parts.Back.TheVariants.{Before}
 use Rattle.opens.specs.declared.parts.Visit.{Visit}
 use Rattle.opens.specs.declared.parts.Visit.TheVariants.{Past, Into}
 use Rattle.bracket_questions.proofs.Waiting.{Misses, misses_waited, waited_append, waits_within, waits_before, unmet_are}
@@ -87,22 +86,26 @@ module _ {items : PieceRow → List ℕ} {limit : ℕ} (a : Aim items limit) whe
         ⊎_elim (λ (h : o < length w). misses_at o (waited (end_state 0 w) (length w) [] bs) k (misses_waited o (end_state 0 w) (length w) [] bs tt (inr h)) there.1)
         (λ (h : length w ≤ o). misses_at o (waited 0 0 [] w) j (misses_waited o 0 0 [] w tt (inl (omega arith))) early) (cases_lt o (length w))
 
+  -- a walk gives no error
+  pub heads_ok : (P : List PieceRow) {q : Result Back Unsound} {e : Unsound} → Heads a P q → q ≡ Err e → ⊥
+  heads_ok P f bad = ⊎_elim (λ q. ok_err q.1 bad) (λ q. ok_err q.1 bad) f
+
   -- what was found in rows that were entered
-  pub held : (P T : List PieceRow) (k : ℕ) (n : Option ℕ) {r found : Result Back Unsound} → Stands a (P ++ T) k → Entered a P T k n → r ≡ held_by n found → Heads a P found → Heads a P r
+  pub held : (P T : List PieceRow) (k : ℕ) (n : Option ℕ) {r : Result Back Unsound} {found : Back} → Stands a (P ++ T) k → Entered a P T k n → r ≡ held_by n found → Heads a P (Ok found) → Heads a P r
   held P T k None s en is f = subst (Heads a P) (sym is) f
-  held P T k (Some n) {r} s en is f = ⊎_elim
+  held P T k (Some n) s en is f = ⊎_elim
       (λ q. absurd (not_before P T k en.0 s q.0 (omega (arith, en.1, en.2)) q.2))
-      (λ q. inr (q.0, is ∙ ap found_only q.1, q.2)) f
+      (λ q. inr (q.0, is ∙ ap (held_by (Some n)) (ok_same refl q.1), q.2)) f
 
   pub inside_of : (P T : List PieceRow) (k : ℕ) (n : Option ℕ) → Entered a P T k n → is_some n ≡ true → length (flat items (P ++ T)) ≤ limit
   inside_of P T k None en is = absurd (let z : ◌≡◌ {A = ℕ} 0 1 = cc in omega arith)
   inside_of P T k (Some n) en is = en.0
 
 -- what stands after a part
-standing : {items : PieceRow → List ℕ} {limit : ℕ} {later : Result Back Unsound} {b : Back} {k : ℕ} (a : Aim items limit) (P : List PieceRow) → later ≡ Ok b → b ≡ Before k → Heads a P later → Stands a P k
-standing a P got is f = ⊎_elim
-    (λ q. let e = ok_same got q.1 in subst (Stands a P) (let same : q.0 ≡ _ = cc in same) q.2)
-    (λ q. let e = ok_same got q.1 in absurd (let z : ◌≡◌ {A = ℕ} 0 1 = cc in omega arith)) f
+standing : {items : PieceRow → List ℕ} {limit : ℕ} {later : Back} {k : ℕ} (a : Aim items limit) (P : List PieceRow) → later ≡ Before k → Heads a P (Ok later) → Stands a P k
+standing a P is f = ⊎_elim
+    (λ q. let e = ok_same refl q.1 in subst (Stands a P) (let same : q.0 ≡ _ = cc in same) q.2)
+    (λ q. let e = ok_same refl q.1 in absurd (let z : ◌≡◌ {A = ℕ} 0 1 = cc in omega arith)) f
 
 -- the part in a slot
 the_part : {A : Type 0} {x : Start} {limit : ℕ} {inside : Bool} {rv : Result (TextValue A) Unsound} {v : TextValue A} {p : Part} (am : List ℕ → A) {items : PieceRow → List ℕ} (a : Aim items limit) (P T : List PieceRow)
@@ -112,28 +115,19 @@ the_part {x = x} am {items} a P T gv pv e pl = part_is am (flat items P) (flat i
 ending : {limit : ℕ} {p : Part} {items : PieceRow → List ℕ} (a : Aim items limit) (P T : List PieceRow) → PartIs (flat items P) (flat items T) p → p.end.offset ≡ length (flat items (P ++ T))
 ending {items = items} a P T q = q.end.offset ∙ ap length (sym (flat_append items P T))
 
-module _ {A : Type 0} {rs : List (Record PieceRow (TextValue A))} {i : ℕ} {x : Start} {limit : ℕ} {inside : Bool} {later : Result Back Unsound} where
-  pub visit_lost : {e : Unsound} {r : Result Visit Unsound} → later ≡ Err e → Visited rs i x limit inside later r
-  visit_lost bad = record { visits = λ am items a P T v pl f. absurd (⊎_elim (λ q. ok_err q.1 bad) (λ q. ok_err q.1 bad) f) }
-
-  pub visit_found : {b : Back} {h : Held} → later ≡ Ok b → b ≡ At h → Visited rs i x limit inside later (Ok (Past (At h)))
-  visit_found {b} {h} got is = record {
-    visits = λ am items a P T v pl f. inl (
-      At h,
-      refl,
-      ⊎_elim
-          (λ q. let e = ok_same got q.1 in absurd (let z : ◌≡◌ {A = ℕ} 0 1 = cc in omega arith))
-          (λ q. let e = ok_same got q.1 in inr (h, refl, subst (Lies a) (let same : q.0 ≡ h = cc in same) q.2)) f,
-    );
+module _ {A : Type 0} {rs : List (Record PieceRow (TextValue A))} {i : ℕ} {x : Start} {limit : ℕ} {inside : Bool} {later : Back} where
+  pub visit_found : ((k : ℕ) → later ≡ Before k → ⊥) → Visited rs i x limit inside later (Ok (Past later))
+  visit_found other = record {
+    visits = λ am items a P T v pl f. inl (later, refl, ⊎_elim (λ q. absurd (other q.0 (ok_same refl q.1))) (λ q. inr (q.0, q.1, q.2)) f);
   }
 
   pub visit_no_value : {rv : Result (TextValue A) Unsound} {e : Unsound} {r : Result Visit Unsound} → rv ≡ value_in (get_or rs i none) → rv ≡ Err e → Visited rs i x limit inside later r
   visit_no_value rd bad = record { visits = λ am items a P T v pl f. absurd (ok_err v (sym rd ∙ bad)) }
 
-module _ {A : Type 0} {rs : List (Record PieceRow (TextValue A))} {i : ℕ} {x : Start} {limit : ℕ} {inside : Bool} {later : Result Back Unsound} {b : Back} {k : ℕ} (got : later ≡ Ok b) (is : b ≡ Before k) where
+module _ {A : Type 0} {rs : List (Record PieceRow (TextValue A))} {i : ℕ} {x : Start} {limit : ℕ} {inside : Bool} {later : Back} {k : ℕ} (is : later ≡ Before k) where
   pub visit_skip : limit ≤ x.offset → Visited rs i x limit inside later (Ok (Past (Before k)))
   visit_skip h = record {
-    visits = λ am items a P T v pl f. inl (Before k, refl, inl (k, refl, stands_skip a P T k (omega (arith, pl.start.offset)) (standing a (P ++ T) got is f)));
+    visits = λ am items a P T v pl f. inl (Before k, refl, inl (k, refl, stands_skip a P T k (omega (arith, pl.start.offset)) (standing a (P ++ T) is f)));
   }
 
   module _ {rv : Result (TextValue A) Unsound} {v : TextValue A} {p : Part} (early : x.offset < limit) (rd : rv ≡ value_in (get_or rs i none)) (gv : rv ≡ Ok v) (pv : p ≡ part_from_slot v x) where
@@ -144,14 +138,14 @@ module _ {A : Type 0} {rs : List (Record PieceRow (TextValue A))} {i : ℕ} {x :
     visit_over over = record {
       visits = λ am items a P T e pl f.
           let q = the_part am a P T gv pv (rd ∙ e) pl in
-          inr (k, None, refl, standing a (P ++ T) got is f, (omega (arith, pl.start.offset), omega (arith, ending a P T q)));
+          inr (k, None, refl, standing a (P ++ T) is f, (omega (arith, pl.start.offset), omega (arith, ending a P T q)));
     }
 
     pub visit_holds : {n : ℕ} → p.end.offset ≤ limit → k < p.unmet → n ≡ p.unmet - k → Visited rs i x limit inside later (Ok (Into k (Some n)))
     visit_holds {n} under has n-is = record {
       visits = λ am items a P T e pl f.
           let q = the_part am a P T gv pv (rd ∙ e) pl in
-          inr (k, Some n, refl, standing a (P ++ T) got is f, (omega (arith, ending a P T q), omega arith, omega (arith, q.unmet)));
+          inr (k, Some n, refl, standing a (P ++ T) is f, (omega (arith, ending a P T q), omega arith, omega (arith, q.unmet)));
     }
 
     pub visit_pass : {j : ℕ} → p.end.offset ≤ limit → p.unmet ≤ k → j ≡ min ((k - p.unmet) + p.strays) 4294967295 → Visited rs i x limit inside later (Ok (Past (Before j)))
@@ -159,7 +153,7 @@ module _ {A : Type 0} {rs : List (Record PieceRow (TextValue A))} {i : ℕ} {x :
       visits = λ am items a P T e pl f.
           let q = the_part am a P T gv pv (rd ∙ e) pl in
           let ends : length (flat items (P ++ T)) ≤ limit = omega (arith, ending a P T q) in
-          let S = stands_pass a P T k ends (standing a (P ++ T) got is f) (omega (arith, q.unmet)) in
+          let S = stands_pass a P T k ends (standing a (P ++ T) is f) (omega (arith, q.unmet)) in
           let there : (k - (read_from (end_state 0 (flat items P)) (flat items T)).unmet) + (read_from (end_state 0 (flat items P)) (flat items T)).strays ≡ j = omega (arith, q.unmet, q.strays, S.light) in
           inl (Before j, refl, inl (j, refl, subst (Stands a P) there S));
     }

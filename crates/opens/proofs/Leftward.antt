@@ -1,9 +1,11 @@
 -- The paths of the walk.
-use Rattle.std.proofs.Common.{◌≡◌, ℕ, zero, suc, ◌+◌, ◌-◌, ◌<◌, ◌≤◌, Bool, false, List, [], ◌∷◌, ◌++◌, length, get_or, take, is_some, Some, None, Ok, Err, Option, Result, sym, refl, ap, ◌∙◌, subst, inl, inr, ⊎_elim, append_assoc, append-nil, arith, length-append}
+use Rattle.std.proofs.Common.{◌≡◌, ℕ, zero, suc, ◌+◌, ◌-◌, ◌<◌, ◌≤◌, Bool, false, List, [], ◌∷◌, ◌++◌, length, get_or, take, is_some, Some, None, Ok, Err, Option, Result, sym, refl, ap, ◌∙◌, subst, inl, inr, ⊎_elim, append_assoc, append-nil, arith, length-append, ◌⊎◌}
 use Rattle.std.proofs.lemmas.List.{take_all, take-append-le}
 use Rattle.plain.specs.Lists.{at}
 use Rattle.plain.specs.Tokens.{end_state}
 use Rattle.measures.specs.Law.{heaviest}
+use Rattle.lexer.specs.Numbers.{number_of}
+use Rattle.lexer.specs.declared.states.State.TheVariants as State
 use Rattle.lexer.specs.Reading.{read_from}
 use Rattle.slots.specs.Ghost.{Twig, leaf, two, three, Arm, Finger, none, root, digit_of, tree_of, rows_twig, rows_arm, rows_part, rows, levels, FitTwig, FitArm, FitPart, Fit}
 use Rattle.slots.specs.Holds.{most}
@@ -19,7 +21,7 @@ use Rattle.slots.specs.declared.records.Tree.TheVariants.{Empty, Single, Deep}
 use Rattle.slots.specs.declared.records.Unsound.{Unsound}
 use Rattle.slots.proofs.Depth.{few_levels}
 use Rattle.slots.proofs.Ends.{Peeled, peel_arm}
-use Rattle.slots.proofs.Reading.{twig_value, deep_value}
+use Rattle.slots.proofs.Joined.{twig_value, deep_value}
 use Rattle.slots.proofs.Shapes.{ok_err, ok_same, part_none, part_some, tree_empty, tree_single, tree_deep, at_level}
 use Rattle.slots.proofs.Weights.{flat_append}
 use Rattle.seek.proofs.Finding.{opened, no_level}
@@ -35,7 +37,7 @@ use Rattle.opens.specs.declared.parts.Back.TheVariants.{At, Before}
 use Rattle.opens.specs.declared.parts.Visit.{Visit}
 use Rattle.opens.specs.declared.parts.Visit.TheVariants.{Past, Into}
 use Rattle.opens.proofs.Placing.{follows_same, placed_light, placed_first, placed_second, rows_second}
-use Rattle.opens.proofs.Judging.{stands_in, held, inside_of}
+use Rattle.opens.proofs.Judging.{stands_in, held, inside_of, heads_ok}
 
 -- a row that begins before an edge between rows ends by it
 edge_row : (items : PieceRow → List ℕ) (P X : List PieceRow) (x : PieceRow) (Z Y : List PieceRow) → P ++ (x ∷ Z) ≡ X ++ Y → length (flat items P) < length (flat items X)
@@ -56,6 +58,10 @@ edge_row items (p ∷ P) (y ∷ X) x Z Y e h =
 -- the same rows, written in another way
 pub heads_rows : {items : PieceRow → List ℕ} {limit : ℕ} (a : Aim items limit) {P Q : List PieceRow} {r : Result Back Unsound} → P ≡ Q → Heads a P r → Heads a Q r
 heads_rows a {r = r} e f = subst (λ (l : List PieceRow). Heads a l r) e f
+
+-- what a call gave that `?` goes on from: a value of which P holds, or an error
+abbrev pub OkOr : Result Back Unsound → (Back → Type 0) → Type 0
+OkOr q P = ((b : Back) × (q ≡ Ok b) × P b) ⊎ ((e : Unsound) × (q ≡ Err e))
 
 -- what the visit of a part says once it is known what it gave
 module _ {items : PieceRow → List ℕ} {limit : ℕ} (a : Aim items limit) (P T : List PieceRow) {vr : Result Visit Unsound} {v : Visit} (got : vr ≡ Ok v) where
@@ -78,12 +84,12 @@ placed_inside : {items : PieceRow → List ℕ} {limit : ℕ} (a : Aim items lim
     → Placed a P T x whole
 placed_inside a P T k n pl en is = record { later = pl.later; text = pl.text; start = pl.start; within = λ h. inside_of a P T k n en (sym is ∙ h) }
 
-visited : {A : Type 0} {rs : List (Record PieceRow (TextValue A))} (height : ℕ) {i : ℕ} {x : Start} {limit : ℕ} {inside : Bool} {later : Result Back Unsound} {vr : Result Visit Unsound} → Visited rs i x limit inside later vr
+visited : {A : Type 0} {rs : List (Record PieceRow (TextValue A))} (height : ℕ) {i : ℕ} {x : Start} {limit : ℕ} {inside : Bool} {later : Back} {vr : Result Visit Unsound} → Visited rs i x limit inside later vr
     → (am : List ℕ → A) (items : PieceRow → List ℕ) (a : Aim items limit) (P : List PieceRow) (u : Twig PieceRow (TextValue A)) → root u ≡ i → FitTwig (mean (text_means am) items) rs u height
-    → Placed a P (rows_twig u) x inside → Heads a (P ++ rows_twig u) later → Visits a P (rows_twig u) vr
+    → Placed a P (rows_twig u) x inside → Heads a (P ++ rows_twig u) (Ok later) → Visits a P (rows_twig u) vr
 visited {rs = rs} height {i} V am items a P u e fit pl f = V.visits am items a P (rows_twig u) (twig_value (mean (text_means am) items) rs u height i e fit) pl f
 
-module _ {A : Type 0} {rs : List (Record PieceRow (TextValue A))} {height i : ℕ} {x : Start} {limit : ℕ} {inside : Bool} {later : Result Back Unsound} {vr : Result Visit Unsound}
+module _ {A : Type 0} {rs : List (Record PieceRow (TextValue A))} {height i : ℕ} {x : Start} {limit : ℕ} {inside : Bool} {later : Back} {vr : Result Visit Unsound}
     (V : Visited rs i x limit inside later vr) where
   pub slot_lost : {e : Unsound} {r : Result Back Unsound} → vr ≡ Err e → SlotWalked rs height i x limit inside later r
   slot_lost bad = record {
@@ -99,17 +105,17 @@ module _ {A : Type 0} {rs : List (Record PieceRow (TextValue A))} {height i : �
         pub slot_no_parts : {e : Unsound} {r : Result Back Unsound} → ps ≡ Err e → SlotWalked rs height i x limit inside later r
         slot_no_parts bad = record { walks = λ am items a P u e fit pl f. absurd (ok_err (opened (mean (text_means am) items) rs (λ z. omega arith) rd u height refl e fit).4 bad) }
 
-        pub slot_node : {d : Digit} {whole : Bool} {found r : Result Back Unsound} → ps ≡ Ok d → whole ≡ is_some n → DigitWalked rs (height - 1) d x limit whole (Ok (Before k)) found → r ≡ held_by n found
+        pub slot_node : {d : Digit} {whole : Bool} {found r : Result Back Unsound} → ps ≡ Ok d → whole ≡ is_some n → DigitWalked rs (height - 1) d x limit whole (Before k) found → OkOr found (λ b. r ≡ held_by n b)
             → SlotWalked rs height i x limit inside later r
-        slot_node {d} {whole} {found} gp wh D hold-is = record {
+        slot_node {d} {whole} {found} gp wh D next = record {
           walks = λ am items a P u e fit pl f.
               let o = opened (mean (text_means am) items) rs (λ z. omega arith) rd u height refl e fit in
               let S = visited_into a P (rows_twig u) got is (visited height V am items a P u e fit pl f) in
-              let D₁ = subst (λ (h : ℕ). DigitWalked rs h d x limit whole (Ok (Before k)) found) (let z : height - 1 ≡ o.1 = omega (arith, o.2) in z) D in
-              held a P (rows_twig u) k n S.0 S.1 hold-is
-              (D₁.walks am items a P o.0 (ok_same o.4 gp) o.5
+              let D₁ = subst (λ (h : ℕ). DigitWalked rs h d x limit whole (Before k) found) (let z : height - 1 ≡ o.1 = omega (arith, o.2) in z) D in
+              let g = D₁.walks am items a P o.0 (ok_same o.4 gp) o.5
               (subst (λ (l : List PieceRow). Placed a P l x whole) (sym o.3) (placed_inside a P (rows_twig u) k n pl S.1 wh))
-              (inl (k, refl, subst (λ (l : List PieceRow). Stands a (P ++ l) k) (sym o.3) S.0)));
+              (inl (k, refl, subst (λ (l : List PieceRow). Stands a (P ++ l) k) (sym o.3) S.0)) in
+              ⊎_elim (λ y. held a P (rows_twig u) k n S.0 S.1 y.2 (subst (Heads a P) y.1 g)) (λ y. absurd (heads_ok a P g y.1)) next;
         }
 
       -- at a leaf
@@ -173,7 +179,7 @@ first_ends {rs = rs} height {o = o} E am items a P D p fit pl =
     E.ends am (flat items P) (flat items (rows_twig p.u)) (twig_value (mean (text_means am) items) rs p.u height o.slot p.slot_is (p.fit (mean (text_means am) items) rs height fit).0) pl.start
     (placed_light a P (rows_twig p.u) (placed_first a P (rows_arm D) (rows_twig p.u) (rows_part p.Q) p.text pl))
 
-module _ {A : Type 0} {rs : List (Record PieceRow (TextValue A))} {height : ℕ} {d : Digit} {x : Start} {limit : ℕ} {inside : Bool} {later : Result Back Unsound} {o : Peel} (is : o ≡ peeled Front d) where
+module _ {A : Type 0} {rs : List (Record PieceRow (TextValue A))} {height : ℕ} {d : Digit} {x : Start} {limit : ℕ} {inside : Bool} {later : Back} {o : Peel} (is : o ≡ peeled Front d) where
   pub digit_one : {r : Result Back Unsound} → o.rest ≡ None → SlotWalked rs height o.slot x limit inside later r → DigitWalked rs height d x limit inside later r
   digit_one last W = record {
     walks = λ am items a P D e fit pl f.
@@ -188,7 +194,8 @@ module _ {A : Type 0} {rs : List (Record PieceRow (TextValue A))} {height : ℕ}
     pub digit_lost : {e : Unsound} {r : Result Back Unsound} → q ≡ Err e → DigitWalked rs height d x limit inside later r
     digit_lost bad = record { walks = λ am items a P D e fit pl f. absurd (ok_err (first_ends height E am items a P D (peel_arm Front D e is) fit pl).1 bad) }
 
-    pub digit_more : {next : Start} {found r : Result Back Unsound} → q ≡ Ok next → DigitWalked rs height rest next limit inside later found → SlotWalked rs height o.slot x limit inside found r → DigitWalked rs height d x limit inside later r
+    pub digit_more : {next : Start} {found r : Result Back Unsound} → q ≡ Ok next → DigitWalked rs height rest next limit inside later found → OkOr found (λ b. SlotWalked rs height o.slot x limit inside b r)
+        → DigitWalked rs height d x limit inside later r
     digit_more {next} {found} got G W = record {
       walks = λ am items a P D e fit pl f.
           let p = peel_arm Front D e is in
@@ -200,15 +207,17 @@ module _ {A : Type 0} {rs : List (Record PieceRow (TextValue A))} {height : ℕ}
           (λ C c text fc.
           G.walks am items a (P ++ T₁) C c fc (placed_second a P (rows_arm D) T₁ (rows_arm C) text pl after) (heads_rows a (rows_second a P (rows_arm D) T₁ (rows_arm C) text pl) f))
           p.Q (p.rest_is ∙ more) p.text fits.1 in
-          W.walks am items a P p.u p.slot_is fits.0 (placed_first a P (rows_arm D) T₁ (rows_part p.Q) p.text pl) g;
+          ⊎_elim
+          (λ y. y.2.walks am items a P p.u p.slot_is fits.0 (placed_first a P (rows_arm D) T₁ (rows_part p.Q) p.text pl) (subst (Heads a (P ++ T₁)) y.1 g))
+          (λ y. absurd (heads_ok a (P ++ T₁) g y.1)) W;
     }
 
 -- the visit of a level
-judged : {A : Type 0} {rs : List (Record PieceRow (TextValue A))} {tr : Tree} {i : ℕ} {x : Start} {limit : ℕ} {inside : Bool} {later : Result Back Unsound} {vr : Result Visit Unsound} → tr ≡ Deep i → Visited rs i x limit inside later vr
+judged : {A : Type 0} {rs : List (Record PieceRow (TextValue A))} {tr : Tree} {i : ℕ} {x : Start} {limit : ℕ} {inside : Bool} {later : Back} {vr : Result Visit Unsound} → tr ≡ Deep i → Visited rs i x limit inside later vr
     → (am : List ℕ → A) (items : PieceRow → List ℕ) (a : Aim items limit) (P : List PieceRow) (t : Finger PieceRow (TextValue A)) (h : ℕ) → tree_of t ≡ tr → Fit (mean (text_means am) items) rs t h
-    → Placed a P (rows t) x inside → Heads a (P ++ rows t) later → Visits a P (rows t) vr
+    → Placed a P (rows t) x inside → Heads a (P ++ rows t) (Ok later) → Visits a P (rows t) vr
 judged {rs = rs} {i = i} {x = x} {inside = inside} {later = later} {vr = vr} deep_is V am items a P t h e fit pl f =
-    tree_deep (λ t. Fit (mean (text_means am) items) rs t h → Placed a P (rows t) x inside → Heads a (P ++ rows t) later → Visits a P (rows t) vr) i
+    tree_deep (λ t. Fit (mean (text_means am) items) rs t h → Placed a P (rows t) x inside → Heads a (P ++ rows t) (Ok later) → Visits a P (rows t) vr) i
     (λ j v F m B ji ft p g.
     V.visits am items a P ((rows_arm F ++ rows m) ++ rows_arm B) (ap (λ q. value_in (get_or rs q none)) (sym ji) ∙ deep_value (mean (text_means am) items) rs j v F m B h ft) p g) t (e ∙ deep_is) fit pl f
 
@@ -216,16 +225,16 @@ judged {rs = rs} {i = i} {x = x} {inside = inside} {later = later} {vr = vr} dee
 ends_at : {q : Result Start Unsound} {y : Start} (items : PieceRow → List ℕ) (P T : List PieceRow) → q ≡ Ok y → EndsAfter (flat items P ++ flat items T) q → Follows (flat items (P ++ T)) y
 ends_at items P T got E = follows_same (sym (flat_append items P T)) (subst (Follows (flat items P ++ flat items T)) (ok_same E.1 got) E.2)
 
-module _ {A : Type 0} {rs : List (Record PieceRow (TextValue A))} {height : ℕ} {tr : Tree} {x : Start} {limit : ℕ} {inside : Bool} {later : Result Back Unsound} where
-  pub tree_none : tr ≡ Empty → TreeWalked rs height tr x limit inside later later
+module _ {A : Type 0} {rs : List (Record PieceRow (TextValue A))} {height : ℕ} {tr : Tree} {x : Start} {limit : ℕ} {inside : Bool} {later : Back} where
+  pub tree_none : tr ≡ Empty → TreeWalked rs height tr x limit inside later (Ok later)
   tree_none is = record {
-    walks = λ am items a P t e fit low pl f. tree_empty (λ t. Heads a (P ++ rows t) later → Heads a P later) (λ g. heads_rows a (append-nil P) g) t (e ∙ is) f;
+    walks = λ am items a P t e fit low pl f. tree_empty (λ t. Heads a (P ++ rows t) (Ok later) → Heads a P (Ok later)) (λ g. heads_rows a (append-nil P) g) t (e ∙ is) f;
   }
 
   pub tree_one : {i : ℕ} {r : Result Back Unsound} → tr ≡ Single i → SlotWalked rs height i x limit inside later r → TreeWalked rs height tr x limit inside later r
   tree_one {i} {r} is W = record {
     walks = λ am items a P t e fit low pl f.
-        tree_single (λ t. Fit (mean (text_means am) items) rs t height → Placed a P (rows t) x inside → Heads a (P ++ rows t) later → Heads a P r) i
+        tree_single (λ t. Fit (mean (text_means am) items) rs t height → Placed a P (rows t) x inside → Heads a (P ++ rows t) (Ok later) → Heads a P r) i
         (λ u ui ft p g. W.walks am items a P u ui ft p g) t (e ∙ is) fit pl f;
   }
 
@@ -278,9 +287,11 @@ module _ {A : Type 0} {rs : List (Record PieceRow (TextValue A))} {height : ℕ}
                   let pm = placed_second a P (rows_arm F ++ rows m) (rows_arm F) (rows m) refl (placed_first a P ((rows_arm F ++ rows m) ++ rows_arm B) (rows_arm F ++ rows m) (rows_arm B) refl p) (ends_at items P (rows_arm F) g₁ E) in
                   absurd (ok_err (E₂.ends am items (flat items (P ++ rows_arm F)) m (suc height) em fm pm.start (placed_light a (P ++ rows_arm F) (rows m) pm)).1 bad))
 
-              pub tree_level : {last : Start} {whole : Bool} {x₁ y₁ z₁ r : Result Back Unsound} → q₂ ≡ Ok last → whole ≡ is_some n → DigitWalked rs height s.back last limit whole (Ok (Before k)) x₁
-                  → TreeWalked rs (height + 1) s.middle inner limit whole x₁ y₁ → DigitWalked rs height s.front x limit whole y₁ z₁ → r ≡ held_by n z₁ → TreeWalked rs height tr x limit inside later r
-              tree_level {last} {whole} {x₁} {y₁} g₂ wh Wb Wm Wf hold-is = at_parts (λ am items a P F m B ef em eb ff fm fb lo p st en E.
+              pub tree_level : {last : Start} {whole : Bool} {x₁ r : Result Back Unsound} → q₂ ≡ Ok last → whole ≡ is_some n → DigitWalked rs height s.back last limit whole (Before k) x₁
+                  → OkOr x₁ (λ b. (y₁ : Result Back Unsound) × TreeWalked rs (height + 1) s.middle inner limit whole b y₁
+                  × OkOr y₁ (λ c. (z₁ : Result Back Unsound) × DigitWalked rs height s.front x limit whole c z₁ × OkOr z₁ (λ d. r ≡ held_by n d)))
+                  → TreeWalked rs height tr x limit inside later r
+              tree_level {last} {whole} {x₁} g₂ wh Wb next = at_parts (λ am items a P F m B ef em eb ff fm fb lo p st en E.
                   let T₁ = rows_arm F in
                   let T₂ = rows m in
                   let T₃ = rows_arm B in
@@ -291,13 +302,20 @@ module _ {A : Type 0} {rs : List (Record PieceRow (TextValue A))} {height : ℕ}
                   let end_is : Follows (flat items ((P ++ T₁) ++ T₂)) last = ends_at items (P ++ T₁) T₂ g₂ E₃ in
                   let pb : Placed a (P ++ (T₁ ++ T₂)) T₃ last whole = placed_second a P ((T₁ ++ T₂) ++ T₃) (T₁ ++ T₂) T₃ refl pw (follows_same (ap (flat items) (append_assoc P T₁ T₂)) end_is) in
                   let hb : Heads a (P ++ (T₁ ++ T₂)) x₁ = Wb.walks am items a (P ++ (T₁ ++ T₂)) B eb fb pb (heads_rows a (sym (append_assoc P (T₁ ++ T₂) T₃)) (inl (k, refl, st))) in
-                  let hm : Heads a (P ++ T₁) y₁ = Wm.walks am items a (P ++ T₁) m em (subst (Fit (mean (text_means am) items) rs m) (let up : suc height ≡ height + 1 = omega arith in up) fm) (omega arith) pm (heads_rows a (sym (append_assoc P T₁ T₂)) hb) in
-                  held a P ((T₁ ++ T₂) ++ T₃) k n st en hold-is
-                  (Wf.walks am items a P F ef ff (placed_first a P (T₁ ++ T₂) T₁ T₂ refl pf) hm))
+                  let up : suc height ≡ height + 1 = omega arith in
+                  ⊎_elim
+                  (λ X.
+                  let hm = X.2.1.walks am items a (P ++ T₁) m em (subst (Fit (mean (text_means am) items) rs m) up fm) (omega arith) pm (heads_rows a (sym (append_assoc P T₁ T₂)) (subst (Heads a (P ++ (T₁ ++ T₂))) X.1 hb)) in
+                  ⊎_elim
+                  (λ Y.
+                  let hf = Y.2.1.walks am items a P F ef ff (placed_first a P (T₁ ++ T₂) T₁ T₂ refl pf) (subst (Heads a (P ++ T₁)) Y.1 hm) in
+                  ⊎_elim (λ Z. held a P ((T₁ ++ T₂) ++ T₃) k n st en Z.2 (subst (Heads a P) Z.1 hf)) (λ Z. absurd (heads_ok a P hf Z.1)) Y.2.2)
+                  (λ Y. absurd (heads_ok a (P ++ T₁) hm Y.1)) X.2.2)
+                  (λ X. absurd (heads_ok a (P ++ (T₁ ++ T₂)) hb X.1)) next)
 
 -- the walk from the end to the start
-module _ {A : Type 0} {rs : List (Record PieceRow (TextValue A))} {tr : Tree} {x : Start} {limit closes : ℕ} {q : Result Back Unsound} (start : x ≡ record { offset = 0; state = 0 })
-    (W : TreeWalked rs 0 tr x limit false (Ok (Before closes)) q) where
+module _ {A : Type 0} {rs : List (Record PieceRow (TextValue A))} {tr : Tree} {x : Start} {limit closes : ℕ} {q : Result Back Unsound} (start : x ≡ record { offset = 0; state = State.Start })
+    (W : TreeWalked rs 0 tr x limit false (Before closes) q) where
   from_end : (am : List ℕ → A) (items : PieceRow → List ℕ) (a : Aim items limit) (t : Finger PieceRow (TextValue A)) → tree_of t ≡ tr → Fit (mean (text_means am) items) rs t 0 → length (rows t) ≤ most
       → a.all ≡ rows t → limit + closes ≤ heaviest → a.sought ≡ at (waited 0 0 [] (flat items a.front)) closes → Heads a [] q
   from_end am items a t e fit few all light sought =
@@ -308,7 +326,7 @@ module _ {A : Type 0} {rs : List (Record PieceRow (TextValue A))} {tr : Tree} {x
       (record {
         later = [];
         text = all ∙ sym (append-nil (rows t));
-        start = record { offset = ap (λ (s : Start). s.offset) start; state = ap (λ (s : Start). s.state) start };
+        start = record { offset = ap (λ (s : Start). s.offset) start; state = ap (λ (s : Start). number_of s.state) start };
         within = λ h. absurd (let z : ◌≡◌ {A = ℕ} 0 1 = cc in omega arith);
       })
       (inl (closes, refl, record { same = sought ∙ ap (λ (l : List ℕ). at (waited 0 0 [] l) closes) (sym cut); light = omega (arith, ap length cut, a.edge) }))

@@ -2,10 +2,11 @@
 use Rattle.std.proofs.Common.{◌≡◌, ℕ, ◌+◌, ◌≤◌, Bool, List, [], ◌++◌, length, get_or, Some, None, Ok, Err, Result, sym, refl, ap, ◌∙◌, subst, append_assoc, append-nil, arith, length-append}
 use Rattle.plain.specs.Tokens.{end_state}
 use Rattle.measures.specs.Law.{heaviest}
+use Rattle.lexer.specs.Numbers.{number_of}
 use Rattle.lexer.specs.Reading.{read_from, reading, row_at}
 use Rattle.lexer.specs.declared.tokens.TokenRow.{TokenRow}
 use Rattle.lexer.specs.RowValues.{row_at_lem}
-use Rattle.lexer.specs.States.{state_bound}
+use Rattle.lexer.specs.States.{end_bound, end_read}
 use Rattle.slots.specs.Ghost.{Arm, none, rows_twig, rows_arm, rows_part, rows, FitArm, FitPart, Fit}
 use Rattle.slots.specs.Sides.{peeled}
 use Rattle.slots.specs.Values.{flat, mean, value_in}
@@ -17,7 +18,7 @@ use Rattle.slots.specs.declared.records.Tree.{Tree}
 use Rattle.slots.specs.declared.records.Tree.TheVariants.{Empty, Single, Deep}
 use Rattle.slots.specs.declared.records.Unsound.{Unsound}
 use Rattle.slots.proofs.Ends.{Peeled, peel_arm}
-use Rattle.slots.proofs.Reading.{twig_value, deep_value}
+use Rattle.slots.proofs.Joined.{twig_value, deep_value}
 use Rattle.slots.proofs.Shapes.{ok_err, ok_same, part_none, part_some, tree_empty, tree_single, tree_deep}
 use Rattle.slots.proofs.Weights.{flat_append}
 use Rattle.pieces.specs.Sound.{TextValue, text_means}
@@ -35,21 +36,16 @@ pub record PartIs (w bs : List ℕ) (p : Part) : Type 0 where
   pub unmet : p.unmet ≡ (read_from (end_state 0 w) bs).unmet
 
 state_low : (w : List ℕ) → end_state 0 w ≤ 12
-unfolding read_from
-state_low w = state_bound 0 w (omega arith)
-
-end_read : (s : ℕ) (bs : List ℕ) → (read_from s bs).state ≡ end_state s bs
-unfolding read_from
-end_read s bs = refl
+state_low w = end_bound 0 w (omega arith)
 
 pub part_is : {A : Type 0} (am : List ℕ → A) (w bs : List ℕ) (x : Start) {v : TextValue A} {p : Part} → v ≡ text_means am bs → p ≡ part_from_slot v x → Follows w x → length (w ++ bs) ≤ heaviest → PartIs w bs p
 part_is am w bs x {v} {p} e is f light =
     let here : p ≡ part_from_slot (text_means am bs) x = is ∙ ap (λ (q : TextValue _). part_from_slot q x) e in
-    let row : row_at (reading bs) x.state ≡ read_from (end_state 0 w) bs =
+    let row : row_at (reading bs) (number_of x.state) ≡ read_from (end_state 0 w) bs =
     ap (row_at (reading bs)) f.state ∙ row_at_lem (reading bs) bs (end_state 0 w) (state_low w) refl in record {
       end = record {
         offset = omega (arith, ap (λ (q : Part). q.end.offset) here, f.offset, length-append w bs);
-        state = ap (λ (q : Part). q.end.state) here ∙ ap (λ (r : TokenRow). r.state) row ∙ end_read (end_state 0 w) bs ∙ sym (end_append 0 w bs);
+        state = ap (λ (q : Part). number_of q.end.state) here ∙ ap (λ (r : TokenRow). number_of r.state) row ∙ end_read (end_state 0 w) bs (state_low w) ∙ sym (end_append 0 w bs);
       };
       strays = ap (λ (q : Part). q.strays) here ∙ ap (λ (r : TokenRow). r.strays) row;
       unmet = ap (λ (q : Part). q.unmet) here ∙ ap (λ (r : TokenRow). r.unmet) row;

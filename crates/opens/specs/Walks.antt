@@ -3,6 +3,7 @@ use Rattle.std.specs.Prelude.{◌≡◌, ℕ, ◌+◌, ◌-◌, ◌<◌, ◌≤�
 use Rattle.plain.specs.Lists.{at}
 use Rattle.plain.specs.Tokens.{end_state}
 use Rattle.measures.specs.Law.{heaviest}
+use Rattle.lexer.specs.Numbers.{number_of}
 use Rattle.lexer.specs.Reading.{read_from}
 use Rattle.slots.specs.Ghost.{Twig, Arm, Finger, none, root, digit_of, tree_of, rows_twig, rows_arm, rows, levels, FitTwig, FitArm, Fit}
 use Rattle.slots.specs.Holds.{most}
@@ -24,7 +25,7 @@ use Rattle.opens.specs.declared.parts.Visit.TheVariants.{Past, Into}
 -- the place after the bytes w of a text
 pub record Follows (w : List ℕ) (x : Start) : Type 0 where
   pub offset : x.offset ≡ length w
-  pub state : x.state ≡ end_state 0 w
+  pub state : number_of x.state ≡ end_state 0 w
 
 -- it was found
 abbrev pub EndsAfter : List ℕ → Result Start Unsound → Type 0
@@ -89,21 +90,21 @@ module _ {A : Type 0} (rs : List (Record PieceRow (TextValue A))) where
     pub ends : (am : List ℕ → A) (items : PieceRow → List ℕ) (w : List ℕ) (t : Finger PieceRow (TextValue A)) (k : ℕ) → tree_of t ≡ tr → Fit (mean (text_means am) items) rs t k → Follows w x
         → length (w ++ flat items (rows t)) ≤ heaviest → EndsAfter (w ++ flat items (rows t)) r
 
-  pub record Visited (i : ℕ) (x : Start) (limit : ℕ) (inside : Bool) (later : Result Back Unsound) (r : Result Visit Unsound) : Type 0 where
+  pub record Visited (i : ℕ) (x : Start) (limit : ℕ) (inside : Bool) (later : Back) (r : Result Visit Unsound) : Type 0 where
     pub visits : (am : List ℕ → A) (items : PieceRow → List ℕ) (a : Aim items limit) (P T : List PieceRow) → value_in (slice_index_or rs i none) ≡ Ok (mean (text_means am) items T)
-        → Placed a P T x inside → Heads a (P ++ T) later → Visits a P T r
+        → Placed a P T x inside → Heads a (P ++ T) (Ok later) → Visits a P T r
 
-  pub record SlotWalked (height i : ℕ) (x : Start) (limit : ℕ) (inside : Bool) (later r : Result Back Unsound) : Type 0 where
+  pub record SlotWalked (height i : ℕ) (x : Start) (limit : ℕ) (inside : Bool) (later : Back) (r : Result Back Unsound) : Type 0 where
     pub walks : (am : List ℕ → A) (items : PieceRow → List ℕ) (a : Aim items limit) (P : List PieceRow) (u : Twig PieceRow (TextValue A)) → root u ≡ i → FitTwig (mean (text_means am) items) rs u height
-        → Placed a P (rows_twig u) x inside → Heads a (P ++ rows_twig u) later → Heads a P r
+        → Placed a P (rows_twig u) x inside → Heads a (P ++ rows_twig u) (Ok later) → Heads a P r
 
-  pub record DigitWalked (height : ℕ) (d : Digit) (x : Start) (limit : ℕ) (inside : Bool) (later r : Result Back Unsound) : Type 0 where
+  pub record DigitWalked (height : ℕ) (d : Digit) (x : Start) (limit : ℕ) (inside : Bool) (later : Back) (r : Result Back Unsound) : Type 0 where
     pub walks : (am : List ℕ → A) (items : PieceRow → List ℕ) (a : Aim items limit) (P : List PieceRow) (D : Arm PieceRow (TextValue A)) → digit_of D ≡ d → FitArm (mean (text_means am) items) rs D height
-        → Placed a P (rows_arm D) x inside → Heads a (P ++ rows_arm D) later → Heads a P r
+        → Placed a P (rows_arm D) x inside → Heads a (P ++ rows_arm D) (Ok later) → Heads a P r
 
-  pub record TreeWalked (height : ℕ) (tr : Tree) (x : Start) (limit : ℕ) (inside : Bool) (later r : Result Back Unsound) : Type 0 where
+  pub record TreeWalked (height : ℕ) (tr : Tree) (x : Start) (limit : ℕ) (inside : Bool) (later : Back) (r : Result Back Unsound) : Type 0 where
     pub walks : (am : List ℕ → A) (items : PieceRow → List ℕ) (a : Aim items limit) (P : List PieceRow) (t : Finger PieceRow (TextValue A)) → tree_of t ≡ tr → Fit (mean (text_means am) items) rs t height → height + levels t ≤ 16
-        → Placed a P (rows t) x inside → Heads a (P ++ rows t) later → Heads a P r
+        → Placed a P (rows t) x inside → Heads a (P ++ rows t) (Ok later) → Heads a P r
 
   -- The open that is sought is the `closes`-th of those that wait at the limit, the nearest first, counted from 0: it is found, or there is none.
   pub record Walked (tr : Tree) (limit closes : ℕ) (r : Result (Option Held) Unsound) : Type 0 where

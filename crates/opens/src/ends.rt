@@ -3,7 +3,6 @@ ghost use Rattle.opens.specs.Walks.{SlotEnds, DigitEnds, TreeEnds};
 
 use crate::parts::{Start, part_from};
 use pieces::head::TextRecord;
-use slots::digits::peel;
 use slots::records::{Digit, Side, Tree, Unsound};
 use slots::values::value_at;
 
@@ -21,7 +20,7 @@ pub fn digit_end<V: Copy>(
 ) -> Result<Start, Unsound>
     ensures { DigitEnds slots.now digit start result }
 {
-    let first = peel(Side::Front, digit);
+    let first = digit.peel(Side::Front);
     let next = slot_end(slots, first.slot, start)?;
     match first.rest {
         None => Ok(next),
@@ -38,7 +37,6 @@ pub fn tree_end<V: Copy>(
 {
     match tree {
         Tree::Empty => Ok(start),
-        Tree::Single(i) => slot_end(slots, i, start),
-        Tree::Deep(i) => slot_end(slots, i, start),
+        Tree::Single(i) | Tree::Deep(i) => slot_end(slots, i, start),
     }
 }

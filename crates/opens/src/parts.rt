@@ -2,6 +2,7 @@
 ghost use Rattle.std.specs.Prelude.{◌≡◌};
 ghost use Rattle.opens.specs.Parts.{part_from_slot, held_by};
 
+use lexer::states::State;
 use lexer::tokens::{Rows, row_of};
 use measures::pair::Pair;
 use measures::totals::Totals;
@@ -12,7 +13,7 @@ use slots::records::Unsound;
 #[derive(Clone, Copy)]
 pub struct Start {
     pub offset: u32,
-    pub state: u8,
+    pub state: State,
 }
 
 // Where a part ends, its closes that have no open in it, and its opens that have no close in it.
@@ -61,17 +62,11 @@ pub fn part_from<V: Copy>(value: &Pair<Pair<Totals, Rows>, V>, start: Start) -> 
 }
 
 // What was found in a part that was entered. Where the open is of a rank in it, it must have been found.
-pub fn hold(rank: Option<u32>, found: Result<Back, Unsound>) -> Result<Back, Unsound>
+pub fn hold(rank: Option<u32>, found: Back) -> Result<Back, Unsound>
     ensures { result ≡ held_by rank found }
 {
-    if rank.is_none() {
-        return found;
-    }
-    match found {
-        Ok(back) => match back {
-            Back::At(held) => Ok(Back::At(held)),
-            Back::Before(_) => Err(Unsound),
-        },
-        Err(e) => Err(e),
+    match (rank, found) {
+        (Some(_), Back::Before(_)) => Err(Unsound),
+        _ => Ok(found),
     }
 }

@@ -3,7 +3,7 @@ use Rattle.std.proofs.Common.{◌≡◌, ℕ, zero, suc, ◌+◌, ◌*◌, ◌<�
 use Rattle.std.proofs.lemmas.Bool.{cases_lt}
 use Rattle.slots.specs.Ghost.{Twig, leaf, two, three, Arm, a1, a2, a3, a4, Finger, nil, one, deep, same, named, occ_list, head_of, none, levels, occ_twig, occ_arm, occ_part, occ, At, FitTwig, FitArm, FitPart, Fit, Chain, loose, Calm, Off}
 use Rattle.slots.specs.Theorems.{total}
-use Rattle.slots.specs.declared.records.Link.{Link}
+use Rattle.slots.specs.Words.{Link}
 use Rattle.slots.specs.declared.records.Record.{Record}
 use Rattle.slots.specs.declared.records.Record.TheVariants.{Free}
 use Rattle.slots.proofs.Frames.{same_cases, occ_list_append, calm_then, frame, frame_part}

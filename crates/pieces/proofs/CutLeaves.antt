@@ -1,12 +1,12 @@
 -- The paths of making a leaf and of cutting one.
 use Rattle.std.proofs.Common.{◌≡◌, ℕ, ◌+◌, ◌-◌, ◌<◌, ◌≤◌, min, Bool, true, false, cond, eqb, leb, ◌⊎◌, List, [], ◌∷◌, ◌++◌, length, get_or, set, Some, None, Ok, Err, Option, Result, sym, refl, ap, ◌∙◌, subst, ap₂, inl, inr, arith, length-append}
 use Rattle.std.proofs.lemmas.Bool.{eqb-true, eqb-false, leb-true, leb-false, eq-eqb, ne_eqb, le-leb, lt-leb}
-use Rattle.stores.specs.Stores.{largest}
+use Rattle.stores.specs.Stores.{Contents, largest}
 use Rattle.slots.specs.Ghost.{Arm, a1, leaf, same, occ_list, none, head_of, part_of, rows_part, size_part, occ_part, At, FitPart, Chain, Calm, Off}
 use Rattle.slots.specs.Values.{mean, row_in}
 use Rattle.slots.specs.Post.{Given, LeafPut}
 use Rattle.slots.specs.declared.records.Unsound.{Unsound}
-use Rattle.slots.specs.declared.records.Link.{Link}
+use Rattle.slots.specs.Words.{Link}
 use Rattle.slots.specs.declared.records.Digit.{Digit}
 use Rattle.slots.specs.declared.records.Digit.TheVariants.{One}
 use Rattle.slots.specs.declared.records.Record.{Record}
@@ -45,10 +45,10 @@ record Freed {V : Type 0} (rs rs₁ : List (Record PieceRow V)) (f f₁ : Link) 
 same_row : {a n : ℕ} {y : PieceRow} → a ≡ y.address → n ≡ y.length → row a n ≡ y
 same_row p q = ap₂ row p q
 
-module _ {S V : Type 0} {means : List ℕ → V} {bytes : S → List ℕ} {capacity reads : S → ℕ} where
+module _ {S V : Type 0} {means : List ℕ → V} {contents : S → Contents} where
   module _ {s s' : S} {rs rs' : List (Record PieceRow V)} {f f' : Link} {x : PieceRow} {v : V} {rv : Result V Unsound} {ri : Result ℕ Unsound}
-      (M : RowMeasured means bytes capacity reads s x rv s') (got : rv ≡ Ok v) (L : LeafPut rs rs' f f' x v ri) (some : x.length ≡ 0 → ⊥) where
-    pub part_no_slot : {e : Unsound} {r : Result (Option Digit) Unsound} → ri ≡ Err e → PartPut means bytes capacity reads s s' rs rs' f f' x r
+      (M : RowMeasured means contents s x rv s') (got : rv ≡ Ok v) (L : LeafPut rs rs' f f' x v ri) (some : x.length ≡ 0 → ⊥) where
+    pub part_no_slot : {e : Unsound} {r : Result (Option Digit) Unsound} → ri ≡ Err e → PartPut means contents s s' rs rs' f f' x r
     part_no_slot bad = record {
       empty = λ z. absurd (some z);
       puts = λ n ns b g fn ch. absurd (ok_err (L.puts n ns fn ch).0 bad);
@@ -57,21 +57,21 @@ module _ {S V : Type 0} {means : List ℕ → V} {bytes : S → List ℕ} {capac
       same_capacity = M.same_capacity;
     }
 
-    pub part_put : {i : ℕ} → ri ≡ Ok i → PartPut means bytes capacity reads s s' rs rs' f f' x (Ok (Some (One i)))
+    pub part_put : {i : ℕ} → ri ≡ Ok i → PartPut means contents s s' rs rs' f f' x (Ok (Some (One i)))
     part_put got-i = record {
       empty = λ z. absurd (some z);
       puts = λ n ns b g fn ch.
           let o = L.puts n ns fn ch in
-          let val : v ≡ means (bytes_of (bytes s) x) = ok_same got (M.value b.1 b.0 g) in
+          let val : v ≡ means (bytes_of (contents s).bytes x) = ok_same got (M.value b.1 b.0 g) in
           (ap (λ (q : ℕ). Ok (Some (One q))) (ok_same got-i o.0), o.1, o.2 ∙ ap (λ (w : V). set rs n (Leaf x w)) val);
       few = M.few;
       same_bytes = M.same_bytes;
       same_capacity = M.same_capacity;
     }
 
-  pub part_made : {s s' : S} {rs rs' : List (Record PieceRow V)} {f f' : Link} {r : Result (Option Digit) Unsound} (x : PieceRow) → PartPut means bytes capacity reads s s' rs rs' f f' x r
-      → Bounded bytes capacity s → (ys : List PieceRow) → ((x.length ≡ 0) × (ys ≡ [])) ⊎ (Good (bytes s) x × (ys ≡ x ∷ []))
-      → (fs : List ℕ) → head_of fs ≡ f → Chain rs fs → ((q : ℕ) → occ_list fs q ≤ 1) → 1 ≤ length fs → PartMade means (bytes s) rs rs' f' r ys fs
+  pub part_made : {s s' : S} {rs rs' : List (Record PieceRow V)} {f f' : Link} {r : Result (Option Digit) Unsound} (x : PieceRow) → PartPut means contents s s' rs rs' f f' x r
+      → Bounded contents s → (ys : List PieceRow) → ((x.length ≡ 0) × (ys ≡ [])) ⊎ (Good (contents s).bytes x × (ys ≡ x ∷ []))
+      → (fs : List ℕ) → head_of fs ≡ f → Chain rs fs → ((q : ℕ) → occ_list fs q ≤ 1) → 1 ≤ length fs → PartMade means (contents s).bytes rs rs' f' r ys fs
   part_made {rs = rs} x P b ys (inl z) fs first chain once long =
       let o = P.empty z.0 in record {
         Q = None;
@@ -91,7 +91,7 @@ module _ {S V : Type 0} {means : List ℕ → V} {bytes : S → List ℕ} {capac
       }
   part_made x P b ys (inr g) [] first chain once long = absurd (omega arith)
   part_made {s} {rs = rs} {rs' = rs'} x P b ys (inr g) (n ∷ ns) first chain once long =
-      let v : V = means (bytes_of (bytes s) x) in
+      let v : V = means (bytes_of (contents s).bytes x) in
       let o = P.puts n ns b g.0 (sym first) chain in
       let p : Put rs rs' n (Leaf x v) = put chain.0.within o.2 in record {
         Q = Some (a1 (leaf n x v));
@@ -101,7 +101,7 @@ module _ {S V : Type 0} {means : List ℕ → V} {bytes : S → List ℕ} {capac
         first = sym o.1;
         rows_are = sym g.1;
         small = omega arith;
-        fit = (p.at, ap means (sym (append_nil_bytes (bytes_of (bytes s) x))));
+        fit = (p.at, ap means (sym (append_nil_bytes (bytes_of (contents s).bytes x))));
         chain = frame_chain p.off ns (λ q. omega (arith, once q)) chain.1;
         kept = λ q. refl;
         frame = off_more (occ_list (n ∷ ns)) (λ q z. omega arith) p.off;
@@ -116,15 +116,15 @@ module _ {S V : Type 0} {means : List ℕ → V} {bytes : S → List ℕ} {capac
 
   -- the row that was read is the leaf's
   pub read_row : {s : S} {rs : List (Record PieceRow V)} {f : Link} {i k j : ℕ} {x y : PieceRow} {v : V} {fs : List ℕ} {rr : Result PieceRow Unsound}
-      → rr ≡ row_in (get_or rs i none) → rr ≡ Ok y → Cuttable means bytes capacity reads s rs f i k j x v fs → y ≡ x
+      → rr ≡ row_in (get_or rs i none) → rr ≡ Ok y → Cuttable means contents s rs f i k j x v fs → y ≡ x
   read_row rd got C = ok_same got (rd ∙ ap row_in C.at.is)
 
   -- nothing is cut
   module _ {s : S} {rs : List (Record PieceRow V)} {f : Link} {i k j : ℕ} where
-    uncut : {r : Result Ends Unsound} (x : PieceRow) (v : V) (fs : List ℕ) (F G : Option (Arm PieceRow V)) → Cuttable means bytes capacity reads s rs f i k j x v fs
+    uncut : {r : Result Ends Unsound} (x : PieceRow) (v : V) (fs : List ℕ) (F G : Option (Arm PieceRow V)) → Cuttable means contents s rs f i k j x v fs
         → r ≡ Ok (record { front = part_of F; back = part_of G }) → rows_part F ≡ front_of k x → rows_part G ≡ rest_of j x → size_part F ≤ 1 → size_part G ≤ 1
-        → FitPart (mean means (bytes_of (bytes s))) rs F 0 → FitPart (mean means (bytes_of (bytes s))) rs G 0
-        → ((q : ℕ) → occ_part F q + occ_part G q ≡ same i q) → Cut means bytes capacity reads s rs rs f i k j r x fs
+        → FitPart (mean means (bytes_of (contents s).bytes)) rs F 0 → FitPart (mean means (bytes_of (contents s).bytes)) rs G 0
+        → ((q : ℕ) → occ_part F q + occ_part G q ≡ same i q) → Cut means contents s rs rs f i k j r x fs
     uncut x v fs F G C ok rf rg sf sg ff fg occ = record {
       F = F;
       G = G;
@@ -146,7 +146,7 @@ module _ {S V : Type 0} {means : List ℕ → V} {bytes : S → List ℕ} {capac
       fresh = λ q z. inr refl;
     }
 
-    pub all_behind : j ≡ 0 → EndsKept means bytes capacity reads s s rs rs f f i k j (Ok (record { front = None; back = Some (One i) }))
+    pub all_behind : j ≡ 0 → EndsKept means contents s s rs rs f f i k j (Ok (record { front = None; back = Some (One i) }))
     all_behind zero = record {
       keeps = λ x v fs C.
           let some : 1 ≤ x.length = C.good.0 in
@@ -162,7 +162,7 @@ module _ {S V : Type 0} {means : List ℕ → V} {bytes : S → List ℕ} {capac
     }
 
     pub all_before : {y : PieceRow} {rr : Result PieceRow Unsound} → rr ≡ row_in (get_or rs i none) → rr ≡ Ok y → y.length ≤ k
-        → EndsKept means bytes capacity reads s s rs rs f f i k j (Ok (record { front = Some (One i); back = None }))
+        → EndsKept means contents s s rs rs f f i k j (Ok (record { front = Some (One i); back = None }))
     all_before rd got high = record {
       keeps = λ x v fs C.
           let is = read_row rd got C in
@@ -183,8 +183,8 @@ module _ {S V : Type 0} {means : List ℕ → V} {bytes : S → List ℕ} {capac
   -- the leaf's slot is given back, and what is left of it is put again
   module _ {s s₁ : S} {rs rs₁ rs₂ : List (Record PieceRow V)} {f f₁ f₂ : Link} {i k j : ℕ} {y : PieceRow} {rr : Result PieceRow Unsound} {rg : Result (Unit {0}) Unsound} {r₁ : Result (Option Digit) Unsound}
       (rd : rr ≡ row_in (get_or rs i none)) (got : rr ≡ Ok y) (low : j ≡ 0 → ⊥) (high : k < y.length)
-      (G : Given rs rs₁ f f₁ i rg) (P : PartPut means bytes capacity reads s s₁ rs₁ rs₂ f₁ f₂ (row y.address k) r₁) where
-    freed : (x : PieceRow) (v : V) (fs : List ℕ) → Cuttable means bytes capacity reads s rs f i k j x v fs → Freed rs rs₁ f f₁ i fs
+      (G : Given rs rs₁ f f₁ i rg) (P : PartPut means contents s s₁ rs₁ rs₂ f₁ f₂ (row y.address k) r₁) where
+    freed : (x : PieceRow) (v : V) (fs : List ℕ) → Cuttable means contents s rs f i k j x v fs → Freed rs rs₁ f f₁ i fs
     freed x v fs C =
         let o = G.gives C.at.within in
         let p : Put rs rs₁ i (Free f) = put C.at.within o.2 in record {
@@ -194,24 +194,24 @@ module _ {S V : Type 0} {means : List ℕ → V} {bytes : S → List ℕ} {capac
           once = C.once;
         }
 
-    first_part : (x : PieceRow) (v : V) (fs : List ℕ) → Cuttable means bytes capacity reads s rs f i k j x v fs → PartMade means (bytes s) rs₁ rs₂ f₂ r₁ (front_of k y) (i ∷ fs)
+    first_part : (x : PieceRow) (v : V) (fs : List ℕ) → Cuttable means contents s rs f i k j x v fs → PartMade means (contents s).bytes rs₁ rs₂ f₂ r₁ (front_of k y) (i ∷ fs)
     first_part x v fs C =
         let d = freed x v fs C in
-        let g : Good (bytes s) y = subst (Good (bytes s)) (sym (read_row rd got C)) C.good in
+        let g : Good (contents s).bytes y = subst (Good (contents s).bytes) (sym (read_row rd got C)) C.good in
         part_made (row y.address k) P C.bounded (front_of k y) (front_cases g) (i ∷ fs) d.first d.chain d.once (omega arith)
       where
-        front_cases : Good (bytes s) y → ((k ≡ 0) × (front_of k y ≡ [])) ⊎ (Good (bytes s) (row y.address k) × (front_of k y ≡ row y.address k ∷ []))
+        front_cases : Good (contents s).bytes y → ((k ≡ 0) × (front_of k y ≡ [])) ⊎ (Good (contents s).bytes (row y.address k) × (front_of k y ≡ row y.address k ∷ []))
         front_cases g = go (eqb k 0) refl
           where
-            go : (t : Bool) → eqb k 0 ≡ t → ((k ≡ 0) × (cond t [] (row y.address k ∷ []) ≡ [])) ⊎ (Good (bytes s) (row y.address k) × (cond t [] (row y.address k ∷ []) ≡ row y.address k ∷ []))
+            go : (t : Bool) → eqb k 0 ≡ t → ((k ≡ 0) × (cond t [] (row y.address k ∷ []) ≡ [])) ⊎ (Good (contents s).bytes (row y.address k) × (cond t [] (row y.address k ∷ []) ≡ row y.address k ∷ []))
             go true e = inl (eqb-true k 0 e, refl)
             go false e =
                 let ne : k ≡ 0 → ⊥ = eqb-false k 0 e in
                 let short : y.length ≤ 256 = g.1 in
-                let inside : y.address + y.length ≤ length (bytes s) = g.2 in
+                let inside : y.address + y.length ≤ length (contents s).bytes = g.2 in
                 inr ((omega arith, omega arith, omega arith), refl)
 
-    pub no_front : {e : Unsound} {r : Result Ends Unsound} → r₁ ≡ Err e → EndsKept means bytes capacity reads s s₁ rs rs₂ f f₂ i k j r
+    pub no_front : {e : Unsound} {r : Result Ends Unsound} → r₁ ≡ Err e → EndsKept means contents s s₁ rs rs₂ f f₂ i k j r
     no_front bad = record {
       keeps = λ x v fs C. absurd (ok_err (first_part x v fs C).ok bad);
       few_reads = λ x v fs C. absurd (ok_err (first_part x v fs C).ok bad);
@@ -220,27 +220,27 @@ module _ {S V : Type 0} {means : List ℕ → V} {bytes : S → List ℕ} {capac
     }
 
     module _ {s₂ : S} {la ll : ℕ} {rs₃ : List (Record PieceRow V)} {f₃ : Link} {F : Option Digit} {r₂ : Result (Option Digit) Unsound} (got-f : r₁ ≡ Ok F)
-        (la-is : la ≡ min (y.address + j) 4294967295) (ll-is : ll ≡ y.length - j) (P' : PartPut means bytes capacity reads s₁ s₂ rs₂ rs₃ f₂ f₃ (row la ll) r₂) where
-      last_part : (x : PieceRow) (v : V) (fs : List ℕ) (C : Cuttable means bytes capacity reads s rs f i k j x v fs) → PartMade means (bytes s₁) rs₂ rs₃ f₃ r₂ (rest_of j y) (first_part x v fs C).fs'
+        (la-is : la ≡ min (y.address + j) 4294967295) (ll-is : ll ≡ y.length - j) (P' : PartPut means contents s₁ s₂ rs₂ rs₃ f₂ f₃ (row la ll) r₂) where
+      last_part : (x : PieceRow) (v : V) (fs : List ℕ) (C : Cuttable means contents s rs f i k j x v fs) → PartMade means (contents s₁).bytes rs₂ rs₃ f₃ r₂ (rest_of j y) (first_part x v fs C).fs'
       last_part x v fs C =
           let A = first_part x v fs C in
-          let g : Good (bytes s) y = subst (Good (bytes s)) (sym (read_row rd got C)) C.good in
-          let g₁ : Good (bytes s₁) y = subst (λ (l : List ℕ). Good l y) (sym P.same_bytes) g in
-          let le : length (bytes s) ≤ capacity s = C.bounded.0 in
-          let cl : capacity s ≤ largest = C.bounded.1 in
-          let b₁ : Bounded bytes capacity s₁ = (omega (arith, ap length P.same_bytes, P.same_capacity), omega (arith, P.same_capacity)) in
-          let inside : y.address + y.length ≤ length (bytes s) = g.2 in
+          let g : Good (contents s).bytes y = subst (Good (contents s).bytes) (sym (read_row rd got C)) C.good in
+          let g₁ : Good (contents s₁).bytes y = subst (λ (l : List ℕ). Good l y) (sym P.same_bytes) g in
+          let le : length (contents s).bytes ≤ (contents s).capacity = C.bounded.0 in
+          let cl : (contents s).capacity ≤ largest = C.bounded.1 in
+          let b₁ : Bounded contents s₁ = (omega (arith, ap length P.same_bytes, P.same_capacity), omega (arith, P.same_capacity)) in
+          let inside : y.address + y.length ≤ length (contents s).bytes = g.2 in
           part_made (row la ll) P' b₁ (rest_of j y) (rest_cases g₁ (omega arith)) A.fs' A.first A.chain (λ q. omega (arith, A.kept q, C.once q)) (omega (arith, A.long, C.long))
         where
-          rest_cases : Good (bytes s₁) y → y.address + y.length ≤ 4294967295 → ((ll ≡ 0) × (rest_of j y ≡ [])) ⊎ (Good (bytes s₁) (row la ll) × (rest_of j y ≡ row la ll ∷ []))
+          rest_cases : Good (contents s₁).bytes y → y.address + y.length ≤ 4294967295 → ((ll ≡ 0) × (rest_of j y ≡ [])) ⊎ (Good (contents s₁).bytes (row la ll) × (rest_of j y ≡ row la ll ∷ []))
           rest_cases g small = go (leb y.length j) refl
             where
-              go : (t : Bool) → leb y.length j ≡ t → ((ll ≡ 0) × (cond t [] (row (y.address + j) (y.length - j) ∷ []) ≡ [])) ⊎ (Good (bytes s₁) (row la ll) × (cond t [] (row (y.address + j) (y.length - j) ∷ []) ≡ row la ll ∷ []))
+              go : (t : Bool) → leb y.length j ≡ t → ((ll ≡ 0) × (cond t [] (row (y.address + j) (y.length - j) ∷ []) ≡ [])) ⊎ (Good (contents s₁).bytes (row la ll) × (cond t [] (row (y.address + j) (y.length - j) ∷ []) ≡ row la ll ∷ []))
               go true e = let le : y.length ≤ j = leb-true y.length j e in inl (omega arith, refl)
               go false e =
                   let lt : j < y.length = leb-false y.length j e in
                   let short : y.length ≤ 256 = g.1 in
-                  let inside : y.address + y.length ≤ length (bytes s₁) = g.2 in
+                  let inside : y.address + y.length ≤ length (contents s₁).bytes = g.2 in
                   let a : y.address + j ≡ la = omega arith in
                   let n : y.length - j ≡ ll = omega arith in
                   inr ((omega arith, omega arith, omega arith), rows_same a n)
@@ -248,7 +248,7 @@ module _ {S V : Type 0} {means : List ℕ → V} {bytes : S → List ℕ} {capac
                   rows_same : {a b m n : ℕ} → a ≡ b → m ≡ n → row a m ∷ [] ≡ row b n ∷ []
                   rows_same p q = cc
 
-      pub no_back : {e : Unsound} {r : Result Ends Unsound} → r₂ ≡ Err e → EndsKept means bytes capacity reads s s₂ rs rs₃ f f₃ i k j r
+      pub no_back : {e : Unsound} {r : Result Ends Unsound} → r₂ ≡ Err e → EndsKept means contents s s₂ rs rs₃ f f₃ i k j r
       no_back bad = record {
         keeps = λ x v fs C. absurd (ok_err (last_part x v fs C).ok bad);
         few_reads = λ x v fs C. absurd (ok_err (last_part x v fs C).ok bad);
@@ -256,14 +256,14 @@ module _ {S V : Type 0} {means : List ℕ → V} {bytes : S → List ℕ} {capac
         same_capacity = P'.same_capacity ∙ P.same_capacity;
       }
 
-      pub both_put : {E : Option Digit} → r₂ ≡ Ok E → EndsKept means bytes capacity reads s s₂ rs rs₃ f f₃ i k j (Ok (record { front = F; back = E }))
+      pub both_put : {E : Option Digit} → r₂ ≡ Ok E → EndsKept means contents s s₂ rs rs₃ f f₃ i k j (Ok (record { front = F; back = E }))
       both_put {E} got-e = record {
         keeps = λ x v fs C.
             let D = freed x v fs C in
             let A = first_part x v fs C in
             let Z = last_part x v fs C in
             let is : y ≡ x = read_row rd got C in
-            let bs : bytes s₁ ≡ bytes s = P.same_bytes in
+            let bs : (contents s₁).bytes ≡ (contents s).bytes = P.same_bytes in
             let shape : Ok (record { front = F; back = E }) ≡ Ok (record { front = part_of A.Q; back = part_of Z.Q }) =
             ends_same (ok_same got-f A.ok) (ok_same got-e Z.ok) in record {
               F = A.Q;
@@ -276,7 +276,7 @@ module _ {S V : Type 0} {means : List ℕ → V} {bytes : S → List ℕ} {capac
               rows_back = Z.rows_are ∙ ap (rest_of j) is;
               small_front = A.small;
               small_back = Z.small;
-              fit_front = frame_part Z.frame (mean means (bytes_of (bytes s))) A.Q 0 (λ q. omega (arith, A.kept q, C.once q)) A.fit;
+              fit_front = frame_part Z.frame (mean means (bytes_of (contents s).bytes)) A.Q 0 (λ q. omega (arith, A.kept q, C.once q)) A.fit;
               fit_back = subst (λ (l : List ℕ). FitPart (mean means (bytes_of l)) rs₃ Z.Q 0) bs Z.fit;
               chain = Z.chain;
               kept = λ q. omega (arith, A.kept q, Z.kept q);

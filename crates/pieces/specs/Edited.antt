@@ -6,8 +6,9 @@ use Rattle.plain.specs.declared.calls.Call.TheVariants as call
 use Rattle.plain.specs.declared.faults.TextFault.{TextFault}
 use Rattle.measures.specs.declared.mark_totals.MarkRow.{MarkRow}
 use Rattle.measures.specs.declared.mark_totals.MarkTotals.{MarkTotals}
+use Rattle.stores.specs.Stores.{Contents}
 use Rattle.slots.specs.Ghost.{occ_list, none, levels}
-use Rattle.slots.specs.declared.records.Link.{Link}
+use Rattle.slots.specs.Words.{Link}
 use Rattle.slots.specs.declared.records.Record.{Record}
 use Rattle.slots.specs.declared.records.Record.TheVariants.{Free}
 use Rattle.pieces.specs.Sound.{TextValue, Mode, Spells}
@@ -38,22 +39,22 @@ brought (call.Range a b) = []
 brought call.Whole = []
 brought (call.Audit n) = []
 
-module _ {A S : Type 0} (am : List ℕ → A) (bytes : S → List ℕ) (capacity reads : S → ℕ) where
+module _ {A S : Type 0} (am : List ℕ → A) (contents : S → Contents) where
   -- An accepted edit: memory spells the machine m'. In each slice d is the most levels of a tree there, after the edit.
   pub record Accepted (s s' : S) (rs rs' : List (Record PieceRow (TextValue A))) (ms ms' : List (Record MarkRow MarkTotals)) (h' : Head) (mode : Mode) (m' : Machine) : Type 0 where
-    pub spells : Spells am mode (bytes s') (capacity s') rs' ms' h' m'
+    pub spells : Spells am mode (contents s').bytes (contents s').capacity rs' ms' h' m'
     pub text_fresh : Fresh rs rs' (max (levels spells.sound.t) (levels spells.sound.k))
     pub mark_fresh : Fresh ms ms' (levels spells.sound.u)
-    pub few_reads : reads s' ≤ reads s + 512
+    pub few_reads : (contents s').reads ≤ (contents s).reads + 512
 
   -- A refused one changes nothing.
   pub record Unchanged (s s' : S) (rs rs' : List (Record PieceRow (TextValue A))) (ms ms' : List (Record MarkRow MarkTotals)) (h h' : Head) : Type 0 where
     pub head : h' ≡ h
     pub slots : rs' ≡ rs
     pub marks : ms' ≡ ms
-    pub same_bytes : bytes s' ≡ bytes s
-    pub same_capacity : capacity s' ≡ capacity s
-    pub same_reads : reads s' ≡ reads s
+    pub same_bytes : (contents s').bytes ≡ (contents s).bytes
+    pub same_capacity : (contents s').capacity ≡ (contents s).capacity
+    pub same_reads : (contents s').reads ≡ (contents s).reads
 
   -- The outcome by the machine's own refusal.
   abbrev pub Outcome : Option TextFault → S → S → List (Record PieceRow (TextValue A)) → List (Record PieceRow (TextValue A)) → List (Record MarkRow MarkTotals) → List (Record MarkRow MarkTotals) → Head → Head → Mode → Machine → Result (Unit {0}) TextFault → Type 0
@@ -63,6 +64,6 @@ module _ {A S : Type 0} (am : List ℕ → A) (bytes : S → List ℕ) (capacity
   -- The edit c of a text in one mode, which an accepted one leaves in another: on memory that spells a machine, what the machine does.
   -- Whatever memory holds, the store's bytes are as they were or have those that the call brings appended.
   pub record Edits (c : Call) (mode mode' : Mode) (s s' : S) (rs rs' : List (Record PieceRow (TextValue A))) (ms ms' : List (Record MarkRow MarkTotals)) (h h' : Head) (r : Result (Unit {0}) TextFault) : Type 0 where
-    pub outcome : (m : Machine) → Spells am mode (bytes s) (capacity s) rs ms h m → Outcome (first_no (asked m c)) s s' rs rs' ms ms' h h' mode' (accepted am m c).0 r
-    pub store : (bytes s' ≡ bytes s) ⊎ (bytes s' ≡ bytes s ++ brought c)
-    pub same_capacity : capacity s' ≡ capacity s
+    pub outcome : (m : Machine) → Spells am mode (contents s).bytes (contents s).capacity rs ms h m → Outcome (first_no (asked m c)) s s' rs rs' ms ms' h h' mode' (accepted am m c).0 r
+    pub store : ((contents s').bytes ≡ (contents s).bytes) ⊎ ((contents s').bytes ≡ (contents s).bytes ++ brought c)
+    pub same_capacity : (contents s').capacity ≡ (contents s).capacity

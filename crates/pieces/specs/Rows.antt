@@ -2,7 +2,7 @@
 use Rattle.std.specs.Prelude.{◌≡◌, ℕ, ◌+◌, ◌-◌, ◌≤◌, cond, List, [], ◌∷◌, map, length, take, drop, Ok, Result, ◌==◌, nat_le}
 use Rattle.plain.specs.Pieces.{Piece, piece}
 use Rattle.plain.specs.Laws as laws
-use Rattle.stores.specs.Stores.{largest, summed}
+use Rattle.stores.specs.Stores.{Contents, largest, summed}
 use Rattle.slots.specs.declared.records.Unsound.{Unsound}
 use Rattle.pieces.specs.declared.rows.PieceRow.{PieceRow}
 use Rattle.pieces.specs.declared.piece.Piece as code
@@ -46,19 +46,19 @@ abbrev pub sizes : List PieceRow → ℕ
 sizes [] = 0
 sizes (x ∷ xs) = x.length + sizes xs
 
-module _ {S V : Type 0} (means : List ℕ → V) (bytes : S → List ℕ) (capacity reads : S → ℕ) where
+module _ {S V : Type 0} (means : List ℕ → V) (contents : S → Contents) where
   -- from s to s' by reading n bytes at address a, each once
   pub record Measured (s : S) (a n : ℕ) (r : Result V Unsound) (s' : S) : Type 0 where
-    pub value : n ≤ 256 → a + n ≤ length (bytes s) → r ≡ Ok (means (take n (drop a (bytes s))))
-    pub counts : a + n ≤ length (bytes s) → reads s' ≡ summed (reads s) n
-    pub few : reads s' ≤ reads s + n
-    pub same_bytes : bytes s' ≡ bytes s
-    pub same_capacity : capacity s' ≡ capacity s
+    pub value : n ≤ 256 → a + n ≤ length (contents s).bytes → r ≡ Ok (means (take n (drop a (contents s).bytes)))
+    pub counts : a + n ≤ length (contents s).bytes → (contents s').reads ≡ summed (contents s).reads n
+    pub few : (contents s').reads ≤ (contents s).reads + n
+    pub same_bytes : (contents s').bytes ≡ (contents s).bytes
+    pub same_capacity : (contents s').capacity ≡ (contents s).capacity
 
   pub record RowMeasured (s : S) (x : PieceRow) (r : Result V Unsound) (s' : S) : Type 0 where
-    pub value : capacity s ≤ largest → length (bytes s) ≤ capacity s → Good (bytes s) x → r ≡ Ok (means (bytes_of (bytes s) x))
-    pub counts : capacity s ≤ largest → length (bytes s) ≤ capacity s → Good (bytes s) x → reads s' ≡ summed (reads s) x.length
-    pub few : reads s' ≤ reads s + x.length
-    pub most : reads s' ≤ reads s + 256
-    pub same_bytes : bytes s' ≡ bytes s
-    pub same_capacity : capacity s' ≡ capacity s
+    pub value : (contents s).capacity ≤ largest → length (contents s).bytes ≤ (contents s).capacity → Good (contents s).bytes x → r ≡ Ok (means (bytes_of (contents s).bytes x))
+    pub counts : (contents s).capacity ≤ largest → length (contents s).bytes ≤ (contents s).capacity → Good (contents s).bytes x → (contents s').reads ≡ summed (contents s).reads x.length
+    pub few : (contents s').reads ≤ (contents s).reads + x.length
+    pub most : (contents s').reads ≤ (contents s).reads + 256
+    pub same_bytes : (contents s').bytes ≡ (contents s).bytes
+    pub same_capacity : (contents s').capacity ≡ (contents s).capacity

@@ -14,7 +14,7 @@ use Rattle.lexer.specs.declared.tokens.TokenRow.{TokenRow}
 use Rattle.slots.specs.Ghost.{Finger, named, occ_list, head_of, tree_of, rows, occ, Fit, Chain}
 use Rattle.slots.specs.Values.{mean}
 use Rattle.slots.specs.declared.records.Record.{Record}
-use Rattle.slots.specs.declared.records.Link.{Link}
+use Rattle.slots.specs.Words.{Link}
 use Rattle.slots.specs.declared.records.Tree.{Tree}
 use Rattle.slots.specs.declared.records.Tree.TheVariants.{Empty}
 use Rattle.pieces.specs.Rows.{piece_of, bytes_of, AllGood, sizes}

@@ -4,7 +4,8 @@ ghost use Rattle.pieces.specs.Leaves.{PartPut, EndsKept};
 use crate::measuring::measure_row;
 use crate::rows::PieceRow;
 use measures::Measure;
-use slots::arena::{give_slot, put_leaf, row_at};
+use slots::arena::{give_slot, put_leaf};
+use slots::reading::row_at;
 use slots::records::{Digit, Link, Record, Unsound};
 use stores::Store;
 
@@ -15,7 +16,7 @@ pub fn put_part<S: Store, M: Measure<Item = u8>>(
     store: &mut S,
     row: PieceRow,
 ) -> Result<Option<Digit>, Unsound>
-    ensures { PartPut M.Measure.means S.Store.bytes S.Store.capacity S.Store.reads store.old store.new slots.old slots.new free.old free.new row result }
+    ensures { PartPut M.Measure.means S.Store.contents store.old store.new slots.old slots.new free.old free.new row result }
 {
     if row.length == 0 {
         return Ok(None);
@@ -41,7 +42,7 @@ pub fn keep_ends<S: Store, M: Measure<Item = u8>>(
     k: u32,
     j: u32,
 ) -> Result<Ends, Unsound>
-    ensures { EndsKept M.Measure.means S.Store.bytes S.Store.capacity S.Store.reads store.old store.new slots.old slots.new free.old free.new i k j result }
+    ensures { EndsKept M.Measure.means S.Store.contents store.old store.new slots.old slots.new free.old free.new i k j result }
 {
     let row = row_at(slots, i)?;
     if j == 0 {

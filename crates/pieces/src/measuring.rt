@@ -12,14 +12,12 @@ pub fn measure_piece<S: Store, M: Measure<Item = u8>>(
     store: &mut S,
     piece: Piece,
 ) -> Result<M::Value, Unsound>
-    ensures { Measured M.Measure.means S.Store.bytes S.Store.capacity S.Store.reads store.old piece.address piece.length result store.new }
+    ensures { Measured M.Measure.means S.Store.contents store.old piece.address piece.length result store.new }
 {
     let mut value = M::empty();
     for i in 0..piece.length {
-        match store.read(piece.address + i as u32) {
-            Some(byte) => M::add(&mut value, byte),
-            None => return Err(Unsound),
-        }
+        let byte = store.read(piece.address + u32::from(i)).ok_or(Unsound)?;
+        M::add(&mut value, byte);
     }
     Ok(value)
 }
@@ -29,10 +27,8 @@ pub fn measure_row<S: Store, M: Measure<Item = u8>>(
     store: &mut S,
     row: PieceRow,
 ) -> Result<M::Value, Unsound>
-    ensures { RowMeasured M.Measure.means S.Store.bytes S.Store.capacity S.Store.reads store.old row result store.new }
+    ensures { RowMeasured M.Measure.means S.Store.contents store.old row result store.new }
 {
-    match row.piece() {
-        Some(piece) => measure_piece::<S, M>(store, piece),
-        None => Err(Unsound),
-    }
+    let piece = Piece::try_from(row)?;
+    measure_piece::<S, M>(store, piece)
 }

@@ -60,6 +60,37 @@ pub struct ScriptFault {
     pub fault: LineFault,
 }
 
+impl From<StoreFull> for TextFault {
+    ghost use Rattle.plain.specs.declared.faults.TextFault.TheVariants.{Store};
+
+    ghost from_gives = { λ full fault. fault ≡ Store full };
+
+    fn from(full: StoreFull) -> TextFault {
+        TextFault::Store(full)
+    }
+}
+
+impl From<TextFault> for CallFault {
+    ghost use Rattle.plain.specs.declared.faults.CallFault.TheVariants.{Text};
+
+    ghost from_gives = { λ fault outer. outer ≡ Text fault };
+
+    fn from(fault: TextFault) -> CallFault {
+        CallFault::Text(fault)
+    }
+}
+
+impl From<CallFault> for LineFault {
+    ghost use Rattle.plain.specs.declared.faults.LineFault.TheVariants.{Call};
+
+    ghost from_gives = { λ fault outer. outer ≡ Call fault };
+
+    fn from(fault: CallFault) -> LineFault {
+        LineFault::Call(fault)
+    }
+}
+
+// `number` and `layer` belong to each type and to no trait: nothing takes a fault of any layer, so a trait would only be one import more.
 impl StoreFull {
     pub fn number(&self) -> u8
         ensures { result ≡ 5 }

@@ -3,29 +3,21 @@ ghost use Rattle.plain.specs.Examples.{Examples};
 ghost use Rattle.plain.specs.Laws.{EditsSpell, RunsKeep, TokensCover};
 
 // The definitions give what they should on small texts.
-pub fn examples_hold() -> u8
+pub fn examples_hold()
     ensures { Examples }
-{
-    0
-}
+{}
 
 // What the edits mean for the text.
-pub fn edits_spell() -> u8
+pub fn edits_spell()
     ensures { EditsSpell }
-{
-    0
-}
+{}
 
 // What no list of calls breaks, whatever measure is added.
-pub fn runs_keep<V>() -> u8
+pub fn runs_keep<V>()
     ensures { RunsKeep V }
-{
-    0
-}
+{}
 
 // Tokens cover the text, and brackets are tokens that nest.
-pub fn tokens_cover() -> u8
+pub fn tokens_cover()
     ensures { TokensCover }
-{
-    0
-}
+{}

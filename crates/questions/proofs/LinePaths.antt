@@ -1,5 +1,5 @@
 -- The paths of the questions on lines.
-use Rattle.std.proofs.Common.{◌≡◌, ℕ, ◌+◌, ◌-◌, ◌<◌, ◌≤◌, min, Bool, leb, ◌⊎◌, List, [], ◌++◌, length, take, drop, Some, None, Ok, Err, Option, Result, sym, ap, ◌∙◌, subst, ap₂, ⊎_elim, arith, length-append, length-take, take_all}
+use Rattle.std.proofs.Common.{◌≡◌, ℕ, ◌+◌, ◌-◌, ◌<◌, ◌≤◌, min, Bool, leb, List, [], ◌++◌, length, take, drop, Some, None, Ok, Err, Option, Result, sym, ap, ◌∙◌, subst, ap₂, ⊎_elim, arith, length-append, length-take, take_all}
 use Rattle.std.proofs.lemmas.Bool.{ltb-false, leb-true, leb-false}
 use Rattle.plain.specs.Lists.{count, slice}
 use Rattle.plain.specs.Tokens.{feed}
@@ -17,7 +17,7 @@ use Rattle.pieces.specs.Rows.{bytes_of, SamePiece, Makes}
 use Rattle.pieces.specs.Sound.{TextValue, text_means}
 use Rattle.pieces.specs.declared.piece.Piece.{Piece}
 use Rattle.pieces.specs.declared.rows.PieceRow.{PieceRow}
-use Rattle.stores.specs.Stores.{Lawful}
+use Rattle.stores.specs.Stores.{Contents, Lawful}
 use Rattle.asking.specs.Rows.{RowFound}
 use Rattle.asking.specs.Texts.{TextAt, Reads, SliceMeasured, Answered}
 use Rattle.asking.proofs.PartPaths.{reads_none, makes_piece}
@@ -31,12 +31,12 @@ abbrev pub fed : {A : Type 0} → ℕ → TextValue A → Bool
 fed k v = leb k v.left.left.feeds
 
 -- the feeds before an offset
-module _ {A S : Type 0} {am : List ℕ → A} {bytes : S → List ℕ} {capacity reads : S → ℕ} {rs : List (Record PieceRow (TextValue A))} {tr : Tree} (p : ℕ) {v w : TextValue A} {q : Result (Option PieceRow) Unsound} {s : S}
+module _ {A S : Type 0} {am : List ℕ → A} {contents : S → Contents} {rs : List (Record PieceRow (TextValue A))} {tr : Tree} (p : ℕ) {v w : TextValue A} {q : Result (Option PieceRow) Unsound} {s : S}
     (start : v ≡ text_means am []) (F : RowFound (λ _. 1) (text_means am) (past p) rs tr v w q) where
-  pub feeds_lost : {e : Unsound} {r : Result ℕ Unsound} → q ≡ Err e → Answered bytes capacity reads 256 am rs tr (λ _. Unit {0}) (λ t. count feed (take p t)) s s r
+  pub feeds_lost : {e : Unsound} {r : Result ℕ Unsound} → q ≡ Err e → Answered contents 256 am rs tr (λ _. Unit {0}) (λ t. count feed (take p t)) s s r
   feeds_lost bad = record { tells = λ T X _. absurd (never_lost start F X bad); reading = reads_none }
 
-  pub feeds_all : {f : Option PieceRow} → q ≡ Ok f → f ≡ None → Answered bytes capacity reads 256 am rs tr (λ _. Unit {0}) (λ t. count feed (take p t)) s s (Ok w.left.left.feeds)
+  pub feeds_all : {f : Option PieceRow} → q ≡ Ok f → f ≡ None → Answered contents 256 am rs tr (λ _. Unit {0}) (λ t. count feed (take p t)) s s (Ok w.left.left.feeds)
   feeds_all got nay = record {
     tells = λ T X _.
         let P = past_all start F X got nay in
@@ -46,19 +46,19 @@ module _ {A S : Type 0} {am : List ℕ → A} {bytes : S → List ℕ} {capacity
   }
 
   module _ {s' : S} {f : Option PieceRow} {x : PieceRow} {k : ℕ} {rm : Result Totals Unsound} (got : q ≡ Ok f) (yea : f ≡ Some x) (k_is : k ≡ p - w.left.left.bytes)
-      (M : SliceMeasured bytes capacity reads totals s s' x 0 k rm) where
-    measured : {T : List ℕ} (X : TextAt am (bytes s) rs tr T) → rm ≡ Ok (totals (slice (bytes_of (bytes s) x) 0 k))
+      (M : SliceMeasured contents totals s s' x 0 k rm) where
+    measured : {T : List ℕ} (X : TextAt am (contents s).bytes rs tr T) → rm ≡ Ok (totals (slice (bytes_of (contents s).bytes x) 0 k))
     measured X = M.value (inside start F X got yea).good
 
-    pub feeds_unread : {e : Unsound} {r : Result ℕ Unsound} → rm ≡ Err e → Answered bytes capacity reads 256 am rs tr (λ _. Unit {0}) (λ t. count feed (take p t)) s s' r
+    pub feeds_unread : {e : Unsound} {r : Result ℕ Unsound} → rm ≡ Err e → Answered contents 256 am rs tr (λ _. Unit {0}) (λ t. count feed (take p t)) s s' r
     feeds_unread bad = record { tells = λ T X _. absurd (ok_err (measured X) bad); reading = M.reading }
 
-    pub feeds_found : {u : Totals} {n : ℕ} → rm ≡ Ok u → n ≡ min (w.left.left.feeds + u.feeds) 4294967295 → Answered bytes capacity reads 256 am rs tr (λ _. Unit {0}) (λ t. count feed (take p t)) s s' (Ok n)
+    pub feeds_found : {u : Totals} {n : ℕ} → rm ≡ Ok u → n ≡ min (w.left.left.feeds + u.feeds) 4294967295 → Answered contents 256 am rs tr (λ _. Unit {0}) (λ t. count feed (take p t)) s s' (Ok n)
     feeds_found {u} {n} got-u n-is = record {
       tells = λ T X _.
           let I = inside start F X got yea in
-          let L : List ℕ = flat (bytes_of (bytes s)) I.xs in
-          let K : List ℕ = slice (bytes_of (bytes s) x) 0 k in
+          let L : List ℕ = flat (bytes_of (contents s).bytes) I.xs in
+          let K : List ℕ = slice (bytes_of (contents s).bytes x) 0 k in
           let f₁ : w.left.left.feeds ≡ count feed L = ap (λ (u : Totals). u.feeds) (before_is I) in
           let f₂ : u.feeds ≡ count feed K = ap (λ (u : Totals). u.feeds) (ok_same got-u (measured X)) in
           let sum : count feed (take p T) ≡ count feed L + count feed K = ap (count feed) (front_of_row p I k_is) ∙ count_append feed L K in
@@ -67,12 +67,12 @@ module _ {A S : Type 0} {am : List ℕ → A} {bytes : S → List ℕ} {capacity
     }
 
 -- the offset past a line feed
-module _ {A S : Type 0} {am : List ℕ → A} {bytes : S → List ℕ} {capacity reads : S → ℕ} {rs : List (Record PieceRow (TextValue A))} {tr : Tree} (number : ℕ) {v w : TextValue A} {q : Result (Option PieceRow) Unsound} {s : S}
+module _ {A S : Type 0} {am : List ℕ → A} {contents : S → Contents} {rs : List (Record PieceRow (TextValue A))} {tr : Tree} (number : ℕ) {v w : TextValue A} {q : Result (Option PieceRow) Unsound} {s : S}
     (start : v ≡ text_means am []) (F : RowFound (λ _. 1) (text_means am) (fed number) rs tr v w q) where
-  pub feed_lost : {e : Unsound} {r : Result (Option ℕ) Unsound} → q ≡ Err e → Answered bytes capacity reads 256 am rs tr (λ _. 1 ≤ number) (λ t. start_of_line t (number + 1)) s s r
+  pub feed_lost : {e : Unsound} {r : Result (Option ℕ) Unsound} → q ≡ Err e → Answered contents 256 am rs tr (λ _. 1 ≤ number) (λ t. start_of_line t (number + 1)) s s r
   feed_lost bad = record { tells = λ T X _. absurd (never_lost start F X bad); reading = reads_none }
 
-  pub feed_none : {f : Option PieceRow} → q ≡ Ok f → f ≡ None → Answered bytes capacity reads 256 am rs tr (λ _. 1 ≤ number) (λ t. start_of_line t (number + 1)) s s (Ok None)
+  pub feed_none : {f : Option PieceRow} → q ≡ Ok f → f ≡ None → Answered contents 256 am rs tr (λ _. 1 ≤ number) (λ t. start_of_line t (number + 1)) s s (Ok None)
   feed_none got nay = record {
     tells = λ T X some.
         let P = past_all start F X got nay in
@@ -82,7 +82,7 @@ module _ {A S : Type 0} {am : List ℕ → A} {bytes : S → List ℕ} {capacity
   }
 
   module _ {f : Option PieceRow} {x : PieceRow} (got : q ≡ Ok f) (yea : f ≡ Some x) where
-    pub feed_no_piece : {r : Result (Option ℕ) Unsound} → Lawful bytes capacity reads → (Makes x → ⊥) → Answered bytes capacity reads 256 am rs tr (λ _. 1 ≤ number) (λ t. start_of_line t (number + 1)) s s r
+    pub feed_no_piece : {r : Result (Option ℕ) Unsound} → Lawful contents → (Makes x → ⊥) → Answered contents 256 am rs tr (λ _. 1 ≤ number) (λ t. start_of_line t (number + 1)) s s r
     feed_no_piece law nay = record {
       tells = λ T X some.
           let I = inside start F X got yea in
@@ -90,12 +90,12 @@ module _ {A S : Type 0} {am : List ℕ → A} {bytes : S → List ℕ} {capacity
       reading = reads_none;
     }
 
-    module _ {s' : S} {y : Piece} {k : ℕ} {rj : Result ℕ Unsound} (same : SamePiece x y) (k_is : k ≡ number - w.left.left.feeds) (E : FeedFound bytes capacity reads s s' y.address y.length k rj) where
+    module _ {s' : S} {y : Piece} {k : ℕ} {rj : Result ℕ Unsound} (same : SamePiece x y) (k_is : k ≡ number - w.left.left.feeds) (E : FeedFound contents s s' y.address y.length k rj) where
       -- the line feed lies in the row
-      ended : {T : List ℕ} (X : TextAt am (bytes s) rs tr T) → 1 ≤ number → (j : ℕ) × (rj ≡ Ok j) × Ends (bytes_of (bytes s) x) k j
+      ended : {T : List ℕ} (X : TextAt am (contents s).bytes rs tr T) → 1 ≤ number → (j : ℕ) × (rj ≡ Ok j) × Ends (bytes_of (contents s).bytes x) k j
       ended X some =
           let I = inside start F X got yea in
-          let B : List ℕ = bytes s in
+          let B : List ℕ = (contents s).bytes in
           let L : List ℕ = flat (bytes_of B) I.xs in
           let part : take y.length (drop y.address B) ≡ bytes_of B x = ap₂ (λ (a n : ℕ). take n (drop a B)) same.address_is same.length_is in
           let f₁ : w.left.left.feeds ≡ count feed L = ap (λ (u : Totals). u.feeds) (before_is I) in
@@ -105,16 +105,16 @@ module _ {A S : Type 0} {am : List ℕ → A} {bytes : S → List ℕ} {capacity
           let J = E.value (omega (arith, same.address_is, same.length_is)) (omega arith) (omega (arith, count_append feed L (bytes_of B x), ap (count feed) part)) in
           (J.0, J.1, subst (λ (l : List ℕ). Ends l k J.0) part J.2)
 
-      pub feed_unread : {e : Unsound} {r : Result (Option ℕ) Unsound} → rj ≡ Err e → Answered bytes capacity reads 256 am rs tr (λ _. 1 ≤ number) (λ t. start_of_line t (number + 1)) s s' r
+      pub feed_unread : {e : Unsound} {r : Result (Option ℕ) Unsound} → rj ≡ Err e → Answered contents 256 am rs tr (λ _. 1 ≤ number) (λ t. start_of_line t (number + 1)) s s' r
       feed_unread bad = record { tells = λ T X some. absurd (ok_err (ended X some).1 bad); reading = E.reading }
 
-      pub feed_found : {j n : ℕ} → rj ≡ Ok j → n ≡ min (w.left.left.bytes + j) 4294967295 → Answered bytes capacity reads 256 am rs tr (λ _. 1 ≤ number) (λ t. start_of_line t (number + 1)) s s' (Ok (Some n))
+      pub feed_found : {j n : ℕ} → rj ≡ Ok j → n ≡ min (w.left.left.bytes + j) 4294967295 → Answered contents 256 am rs tr (λ _. 1 ≤ number) (λ t. start_of_line t (number + 1)) s s' (Ok (Some n))
       feed_found {j} {n} got-j n-is = record {
         tells = λ T X some.
             let I = inside start F X got yea in
             let J = ended X some in
             let D = J.2 in
-            let B : List ℕ = bytes s in
+            let B : List ℕ = (contents s).bytes in
             let L : List ℕ = flat (bytes_of B) I.xs in
             let Y : List ℕ = bytes_of B x in
             let Z : List ℕ = flat (bytes_of B) I.ys in
@@ -134,56 +134,56 @@ module _ {A S : Type 0} {am : List ℕ → A} {bytes : S → List ℕ} {capacity
       }
 
 -- where a line starts
-module _ {A S : Type 0} {am : List ℕ → A} {bytes : S → List ℕ} {capacity reads : S → ℕ} {rs : List (Record PieceRow (TextValue A))} {tr : Tree} {line : ℕ} {s : S} where
-  pub line_none : line ≡ 0 → Answered bytes capacity reads 256 am rs tr (λ _. Unit {0}) (λ t. start_of_line t line) s s (Ok None)
+module _ {A S : Type 0} {am : List ℕ → A} {contents : S → Contents} {rs : List (Record PieceRow (TextValue A))} {tr : Tree} {line : ℕ} {s : S} where
+  pub line_none : line ≡ 0 → Answered contents 256 am rs tr (λ _. Unit {0}) (λ t. start_of_line t line) s s (Ok None)
   line_none z = record { tells = λ T X _. ap (λ (k : ℕ). Ok (start_of_line T k)) (sym z); reading = reads_none }
 
-  pub line_first : line ≡ 1 → Answered bytes capacity reads 256 am rs tr (λ _. Unit {0}) (λ t. start_of_line t line) s s (Ok (Some 0))
+  pub line_first : line ≡ 1 → Answered contents 256 am rs tr (λ _. Unit {0}) (λ t. start_of_line t line) s s (Ok (Some 0))
   line_first e = record { tells = λ T X _. ap (λ (k : ℕ). Ok (start_of_line T k)) (sym e); reading = reads_none }
 
-  pub line_later : {s' : S} {r : Result (Option ℕ) Unsound} → (line ≡ 0 → ⊥) → (line ≡ 1 → ⊥) → Answered bytes capacity reads 256 am rs tr (λ _. 1 ≤ line - 1) (λ t. start_of_line t (line - 1 + 1)) s s' r
-      → Answered bytes capacity reads 256 am rs tr (λ _. Unit {0}) (λ t. start_of_line t line) s s' r
-  line_later nz nf E = record {
+  pub line_later : {s' : S} {r : Result (Option ℕ) Unsound} → 2 ≤ line → Answered contents 256 am rs tr (λ _. 1 ≤ line - 1) (λ t. start_of_line t (line - 1 + 1)) s s' r
+      → Answered contents 256 am rs tr (λ _. Unit {0}) (λ t. start_of_line t line) s s' r
+  line_later le E = record {
     tells = λ T X _. E.tells T X (omega arith) ∙ ap (λ (k : ℕ). Ok (start_of_line T k)) (let e : line - 1 + 1 ≡ line = omega arith in e);
     reading = E.reading;
   }
 
 -- the line and the column of an offset
-module _ {A S : Type 0} {am : List ℕ → A} {bytes : S → List ℕ} {capacity reads : S → ℕ} {rs : List (Record PieceRow (TextValue A))} {tr : Tree} (p : ℕ) {s s₁ : S} {rf : Result ℕ Unsound}
-    (E : Answered bytes capacity reads 256 am rs tr (λ _. Unit {0}) (λ t. count feed (take p t)) s s₁ rf) where
-  pub place_no_feeds : {e : Unsound} {r : Result Place Unsound} → rf ≡ Err e → Answered bytes capacity reads 512 am rs tr (λ t. p ≤ length t) (λ t. line_of_offset t p) s s₁ r
+module _ {A S : Type 0} {am : List ℕ → A} {contents : S → Contents} {rs : List (Record PieceRow (TextValue A))} {tr : Tree} (p : ℕ) {s s₁ : S} {rf : Result ℕ Unsound}
+    (E : Answered contents 256 am rs tr (λ _. Unit {0}) (λ t. count feed (take p t)) s s₁ rf) where
+  pub place_no_feeds : {e : Unsound} {r : Result Place Unsound} → rf ≡ Err e → Answered contents 512 am rs tr (λ t. p ≤ length t) (λ t. line_of_offset t p) s s₁ r
   place_no_feeds bad = record {
     tells = λ T X le. absurd (ok_err (E.tells T X tt) bad);
     reading = record { few = omega (arith, E.reading.few); same_bytes = E.reading.same_bytes; same_capacity = E.reading.same_capacity };
   }
 
   module _ {s₂ : S} {n line : ℕ} {rl : Result (Option ℕ) Unsound} (got : rf ≡ Ok n) (line-is : line ≡ min (n + 1) 4294967295)
-      (G : Answered bytes capacity reads 256 am rs tr (λ _. Unit {0}) (λ t. start_of_line t line) s₁ s₂ rl) where
-    both_read : Reads bytes capacity reads 512 s s₂
+      (G : Answered contents 256 am rs tr (λ _. Unit {0}) (λ t. start_of_line t line) s₁ s₂ rl) where
+    both_read : Reads contents 512 s s₂
     both_read = record {
       few = omega (arith, E.reading.few, G.reading.few);
       same_bytes = G.reading.same_bytes ∙ E.reading.same_bytes;
       same_capacity = G.reading.same_capacity ∙ E.reading.same_capacity;
     }
 
-    line_of : {T : List ℕ} → TextAt am (bytes s) rs tr T → line ≡ 1 + count feed (take p T)
+    line_of : {T : List ℕ} → TextAt am (contents s).bytes rs tr T → line ≡ 1 + count feed (take p T)
     line_of {T} X =
         omega (arith, ok_same got (E.tells T X tt), light_text X, count_length feed (take p T), length-take p T)
 
-    started : {T : List ℕ} → TextAt am (bytes s) rs tr T → p ≤ length T → rl ≡ Ok (Some (p - column 0 (take p T)))
+    started : {T : List ℕ} → TextAt am (contents s).bytes rs tr T → p ≤ length T → rl ≡ Ok (Some (p - column 0 (take p T)))
     started {T} X le =
         G.tells T (same_text E.reading.same_bytes X) tt ∙ ap Ok (line_start_lem T p line le (line_of X))
 
-    pub place_no_start : {e : Unsound} {r : Result Place Unsound} → rl ≡ Err e → Answered bytes capacity reads 512 am rs tr (λ t. p ≤ length t) (λ t. line_of_offset t p) s s₂ r
+    pub place_no_start : {e : Unsound} {r : Result Place Unsound} → rl ≡ Err e → Answered contents 512 am rs tr (λ t. p ≤ length t) (λ t. line_of_offset t p) s s₂ r
     place_no_start bad = record { tells = λ T X le. absurd (ok_err (started X le) bad); reading = both_read }
 
-    pub place_no_line : {o : Option ℕ} {r : Result Place Unsound} → rl ≡ Ok o → o ≡ None → Answered bytes capacity reads 512 am rs tr (λ t. p ≤ length t) (λ t. line_of_offset t p) s s₂ r
+    pub place_no_line : {o : Option ℕ} {r : Result Place Unsound} → rl ≡ Ok o → o ≡ None → Answered contents 512 am rs tr (λ t. p ≤ length t) (λ t. line_of_offset t p) s s₂ r
     place_no_line got-o nay = record {
       tells = λ T X le. absurd (some_none (ok_same (started X le) got-o ∙ nay));
       reading = both_read;
     }
 
-    pub place_found : {o : Option ℕ} {j c : ℕ} → rl ≡ Ok o → o ≡ Some j → c ≡ p - j → Answered bytes capacity reads 512 am rs tr (λ t. p ≤ length t) (λ t. line_of_offset t p) s s₂ (Ok (record { line = line; column = c }))
+    pub place_found : {o : Option ℕ} {j c : ℕ} → rl ≡ Ok o → o ≡ Some j → c ≡ p - j → Answered contents 512 am rs tr (λ t. p ≤ length t) (λ t. line_of_offset t p) s s₂ (Ok (record { line = line; column = c }))
     place_found {o} {j} {c} got-o yea c-is = record {
       tells = λ T X le.
           let j-is : j ≡ p - column 0 (take p T) = some_same (sym yea ∙ ok_same got-o (started X le)) in

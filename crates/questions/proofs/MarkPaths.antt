@@ -1,6 +1,7 @@
 -- The paths of the question on marks.
-use Rattle.std.proofs.Common.{◌≡◌, ℕ, suc, ◌+◌, ◌<◌, ◌≤◌, min, Bool, true, false, ◌&&◌, ltb, leb, ◌⊎◌, List, [], ◌∷◌, ◌++◌, length, Some, None, Ok, Err, Option, Result, sym, refl, ap, ◌∙◌, inl, inr, ⊎_elim, arith}
+use Rattle.std.proofs.Common.{◌≡◌, ℕ, suc, ◌+◌, ◌<◌, ◌≤◌, min, Bool, true, false, ◌&&◌, ltb, leb, ◌⊎◌, List, [], ◌∷◌, ◌++◌, length, Some, None, Ok, Err, Option, Result, sym, refl, ap, ◌∙◌, subst, inl, inr, ⊎_elim, arith}
 use Rattle.std.proofs.lemmas.Bool.{ltb-false, leb-true, leb-false, and_parts, and_cases}
+use Rattle.std.specs.Option.{option_map}
 use Rattle.plain.specs.Machine.{Machine}
 use Rattle.plain.specs.Questions.{mark_of_offset}
 use Rattle.plain.specs.declared.answers.Mark.{Mark}
@@ -45,7 +46,7 @@ module _ {ms : List (Record MarkRow MarkTotals)} {tr : Tree} (q : ℕ) {v w : Ma
   pub mark_lost : {e : Unsound} {r : Result (Option Mark) Unsound} → f ≡ Err e → FirstMark ms tr q r
   mark_lost bad = record { tells = λ u is fit few light. ⊎_elim (λ n. absurd (ok_err n.0 bad)) (λ y. absurd (ok_err y.1 bad)) (turns u is fit few light) }
 
-  pub mark_none : {o : Option MarkRow} → f ≡ Ok o → o ≡ None → FirstMark ms tr q (Ok None)
+  mark_none : {o : Option MarkRow} → f ≡ Ok o → o ≡ None → FirstMark ms tr q (Ok None)
   mark_none got nay = record {
     tells = λ u is fit few light. ⊎_elim
         (λ n. ⊎_elim
@@ -55,7 +56,7 @@ module _ {ms : List (Record MarkRow MarkTotals)} {tr : Tree} (q : ℕ) {v w : Ma
         (λ y. absurd (some_none (ok_same y.1 got ∙ nay))) (turns u is fit few light);
   }
 
-  pub mark_found : {o : Option MarkRow} {x : MarkRow} {n : ℕ} → f ≡ Ok o → o ≡ Some x → n ≡ min (w.gaps + x.gap) 4294967295 → FirstMark ms tr q (Ok (Some (record { offset = n; label = x.label })))
+  mark_found : {o : Option MarkRow} {x : MarkRow} {n : ℕ} → f ≡ Ok o → o ≡ Some x → n ≡ min (w.gaps + x.gap) 4294967295 → FirstMark ms tr q (Ok (Some (record { offset = n; label = x.label })))
   mark_found {o} {x} {n} got yea n-is = record {
     tells = λ u is fit few light. ⊎_elim
         (λ z. absurd (some_none (sym (ok_same z.0 got ∙ yea))))
@@ -76,6 +77,10 @@ module _ {ms : List (Record MarkRow MarkTotals)} {tr : Tree} (q : ℕ) {v w : Ma
           let all : gaps (rows u) ≡ gaps H.xs + (y.gap + gaps H.ys) = ap gaps H.parts ∙ gaps_append H.xs (y ∷ H.ys) in
           let turn = first_turn q 0 H.xs y H.ys (from_no q H.xs H.past.no) (omega (arith, gaps_append H.xs (y ∷ []))) in
           mark_same (let e : n ≡ 0 + gaps H.xs + y.gap = omega arith in e) (sym label_is) ∙ ap Ok (sym (ap (λ (l : List MarkRow). mark_of_offset (placed 0 l) q) H.parts ∙ turn))
+
+  pub mark_told : {o : Option MarkRow} {z : Option Mark} → f ≡ Ok o → z ≡ option_map (λ x. record { offset = min (w.gaps + x.gap) 4294967295; label = x.label }) o → FirstMark ms tr q (Ok z)
+  mark_told {o = None} got is = subst (λ (y : Option Mark). FirstMark ms tr q (Ok y)) (sym is) (mark_none got refl)
+  mark_told {o = Some x} got is = subst (λ (y : Option Mark). FirstMark ms tr q (Ok y)) (sym is) (mark_found got refl refl)
 
 -- the marks of memory that spells a machine
 pub marks_told : {A : Type 0} {am : List ℕ → A} {mode : Mode} {B : List ℕ} {c q : ℕ} {rs : List (Record PieceRow (TextValue A))} {ms : List (Record MarkRow MarkTotals)} {h : Head} {m : Machine} {r : Result (Option Mark) Unsound}

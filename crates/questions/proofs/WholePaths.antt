@@ -15,21 +15,21 @@ use Rattle.slots.specs.declared.records.Record.{Record}
 use Rattle.slots.specs.declared.records.Unsound.{Unsound}
 use Rattle.slots.proofs.Shapes.{ok_err, ok_same}
 use Rattle.pieces.specs.Sound.{TextValue, text_means}
-use Rattle.pieces.specs.Asked.{heard, Told}
+use Rattle.pieces.specs.Asked.{Told}
 use Rattle.pieces.specs.declared.rows.PieceRow.{PieceRow}
 use Rattle.pieces.specs.declared.head.Head.{Head}
 use Rattle.asking.proofs.TextPlaces.{text_at, light_text}
-use Rattle.asking.proofs.Tellings.{heard_ok, root_value}
+use Rattle.asking.proofs.Tellings.{root_value}
 
-module _ {A : Type 0} {am : List ℕ → A} {rs : List (Record PieceRow (TextValue A))} {h : Head} {rv : Result (TextValue A) Unsound} {f : Result (TextValue A) TextFault}
-    (V : TreeValued (λ _. 1) (text_means am) rs h.text rv) (fv : f ≡ heard rv) where
-  pub whole_broken : {e : TextFault} {r : Result Summary TextFault} → f ≡ Err e → (B : List ℕ) (ms : List (Record MarkRow MarkTotals)) → Told am B rs ms h Whole (λ m. summary (text m)) r
-  whole_broken bad B ms = record { tells = λ mode k m P. absurd (ok_err (heard_ok fv (root_value V (text_at P))) bad) }
+module _ {A : Type 0} {am : List ℕ → A} {rs : List (Record PieceRow (TextValue A))} {h : Head} {rv : Result (TextValue A) Unsound}
+    (V : TreeValued (λ _. 1) (text_means am) rs h.text rv) where
+  pub whole_broken : {e : Unsound} {r : Result Summary TextFault} → rv ≡ Err e → (B : List ℕ) (ms : List (Record MarkRow MarkTotals)) → Told am B rs ms h Whole (λ m. summary (text m)) r
+  whole_broken bad B ms = record { tells = λ mode k m P. absurd (ok_err (root_value V (text_at P)) bad) }
 
-  pub whole_told : {v : TextValue A} {y : Summary} → f ≡ Ok v → ((bs : List ℕ) → length bs ≤ heaviest → v.left.left ≡ totals bs → v.left.right ≡ reading bs → y ≡ summary bs)
+  pub whole_told : {v : TextValue A} {y : Summary} → rv ≡ Ok v → ((bs : List ℕ) → length bs ≤ heaviest → v.left.left ≡ totals bs → v.left.right ≡ reading bs → y ≡ summary bs)
       → (B : List ℕ) (ms : List (Record MarkRow MarkTotals)) → Told am B rs ms h Whole (λ m. summary (text m)) (Ok y)
   whole_told {v} got law B ms = record {
     tells = λ mode k m P.
-        let v-is : v ≡ text_means am (text m) = ok_same got (heard_ok fv (root_value V (text_at P))) in
+        let v-is : v ≡ text_means am (text m) = ok_same got (root_value V (text_at P)) in
         ap Ok (law (text m) (light_text (text_at P)) (ap (λ (q : TextValue A). q.left.left) v-is) (ap (λ (q : TextValue A). q.left.right) v-is));
   }

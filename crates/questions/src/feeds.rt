@@ -9,20 +9,16 @@ const FEED: u8 = 0x0A;
 
 // How far into the piece its line feed with this number ends, counted from 1.
 pub fn find_feed<S: Store>(store: &mut S, piece: Piece, number: u32) -> Result<u32, Unsound>
-    ensures { FeedFound S.Store.bytes S.Store.capacity S.Store.reads store.old store.new piece.address piece.length number result }
+    ensures { FeedFound S.Store.contents store.old store.new piece.address piece.length number result }
 {
     let mut met = 0;
     for i in 0..piece.length {
-        match store.read(piece.address + i as u32) {
-            Some(byte) => {
-                if byte == FEED {
-                    met += 1;
-                    if met == number {
-                        return Ok(i as u32 + 1);
-                    }
-                }
+        let byte = store.read(piece.address + u32::from(i)).ok_or(Unsound)?;
+        if byte == FEED {
+            met += 1;
+            if met == number {
+                return Ok(u32::from(i) + 1);
             }
-            None => return Err(Unsound),
         }
     }
     Err(Unsound)

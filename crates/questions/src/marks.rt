@@ -10,7 +10,6 @@ use edits::doors::size_of;
 use measures::Measure;
 use measures::mark_totals::{MarkRow, MarkTotals};
 use measures::probes::MarkFrom;
-use pieces::faults::sound;
 use pieces::head::{Head, MarkRecord, TextRecord};
 use plain::answers::Mark;
 use plain::faults::TextFault;
@@ -23,13 +22,10 @@ pub fn first_mark(marks: &[MarkRecord], tree: Tree, at: u32) -> Result<Option<Ma
     let mut before = MarkTotals { gaps: 0, count: 0 };
     let probe = MarkFrom { at };
     let found = find_row::<MarkRow, MarkTotals, MarkFrom>(marks, tree, &probe, &mut before)?;
-    match found {
-        Some(row) => Ok(Some(Mark {
-            offset: before.gaps.saturating_add(row.gap),
-            label: row.label,
-        })),
-        None => Ok(None),
-    }
+    Ok(found.map(|row| Mark {
+        offset: before.gaps.saturating_add(row.gap),
+        label: row.label,
+    }))
 }
 
 pub fn mark_from<A: Measure<Item = u8>>(
@@ -40,9 +36,9 @@ pub fn mark_from<A: Measure<Item = u8>>(
 ) -> Result<Option<Mark>, TextFault>
     ensures { (B : List ℕ) → Told A.Measure.means B slots.now marks.now head.now (AskMark at) (λ m. mark_of_offset m.marks at) result }
 {
-    let size = sound(size_of::<A>(slots, head.text))?;
+    let size = size_of::<A>(slots, head.text)?;
     if at > size {
         return Err(TextFault::Offset);
     }
-    sound(first_mark(marks, head.marks, at))
+    Ok(first_mark(marks, head.marks, at)?)
 }

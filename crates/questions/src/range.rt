@@ -13,10 +13,8 @@ ghost use Rattle.questions.specs.Ranges.{RestMeasured};
 use asking::finding::{find_row, find_row_after};
 use asking::parts::measure_slice;
 use edits::doors::size_of;
-use edits::edges::AtByte;
+use edits::edges::{AtByte, at_byte};
 use measures::Measure;
-use measures::probes::{OnLeft, PastByte};
-use pieces::faults::sound;
 use pieces::head::{Head, TextMeasure, TextRecord};
 use pieces::rows::PieceRow;
 use plain::faults::TextFault;
@@ -31,34 +29,22 @@ pub fn measure_rest<S: Store, A: Measure<Item = u8>>(
     offset: u32,
     many: u32,
 ) -> Result<A::Value, Unsound>
-    ensures { RestMeasured S.Store.bytes S.Store.capacity S.Store.reads A.Measure.means slots.now text offset many store.old store.new result }
+    ensures { RestMeasured S.Store.contents A.Measure.means slots.now text offset many store.old store.new result }
 {
     let mut between = TextMeasure::<A>::empty();
-    let first = OnLeft {
-        probe: OnLeft {
-            probe: PastByte { at: offset },
-        },
-    };
-    let last = OnLeft {
-        probe: OnLeft {
-            probe: PastByte { at: many },
-        },
-    };
     let found = find_row_after::<PieceRow, TextMeasure<A>, AtByte, AtByte>(
         slots,
         text,
-        &first,
-        &last,
+        &at_byte(offset),
+        &at_byte(many),
         &mut between,
     )?;
-    match found {
-        Some(row) => {
-            let inside = many.saturating_sub(between.left.left.bytes);
-            let end = measure_slice::<S, A>(store, row, 0, inside)?;
-            Ok(A::join(&between.right, &end))
-        }
-        None => Ok(between.right),
-    }
+    let Some(row) = found else {
+        return Ok(between.right);
+    };
+    let inside = many.saturating_sub(between.left.left.bytes);
+    let end = measure_slice::<S, A>(store, row, 0, inside)?;
+    Ok(A::join(&between.right, &end))
 }
 
 // Whole pieces are not read, but those at both ends are where only a part is asked for.
@@ -69,33 +55,31 @@ pub fn measure_between<S: Store, A: Measure<Item = u8>>(
     from: u32,
     to: u32,
 ) -> Result<A::Value, Unsound>
-    ensures { Answered S.Store.bytes S.Store.capacity S.Store.reads 512 A.Measure.means slots.now text (λ t. (from ≤ to) × (to ≤ length t)) (λ t. A.Measure.means (slice t from to)) store.old store.new result }
+    ensures { Answered S.Store.contents 512 A.Measure.means slots.now text (λ t. (from ≤ to) × (to ≤ length t)) (λ t. A.Measure.means (slice t from to)) store.old store.new result }
 {
     let mut before = TextMeasure::<A>::empty();
-    let probe = OnLeft {
-        probe: OnLeft {
-            probe: PastByte { at: from },
-        },
+    let found = find_row::<PieceRow, TextMeasure<A>, AtByte>(
+        slots,
+        text,
+        &at_byte(from),
+        &mut before,
+    )?;
+    let Some(row) = found else {
+        return Ok(A::empty());
     };
-    let found = find_row::<PieceRow, TextMeasure<A>, AtByte>(slots, text, &probe, &mut before)?;
-    match found {
-        Some(row) => {
-            let start = before.left.left.bytes;
-            let first = measure_slice::<S, A>(
-                store,
-                row,
-                from.saturating_sub(start),
-                to.saturating_sub(start),
-            )?;
-            let end = start.saturating_add(row.length);
-            if to <= end {
-                return Ok(first);
-            }
-            let rest = measure_rest::<S, A>(slots, store, text, from, to - end)?;
-            Ok(A::join(&first, &rest))
-        }
-        None => Ok(A::empty()),
+    let start = before.left.left.bytes;
+    let first = measure_slice::<S, A>(
+        store,
+        row,
+        from.saturating_sub(start),
+        to.saturating_sub(start),
+    )?;
+    let end = start.saturating_add(row.length);
+    if to <= end {
+        return Ok(first);
     }
+    let rest = measure_rest::<S, A>(slots, store, text, from, to - end)?;
+    Ok(A::join(&first, &rest))
 }
 
 pub fn range<S: Store, A: Measure<Item = u8>>(
@@ -105,14 +89,11 @@ pub fn range<S: Store, A: Measure<Item = u8>>(
     from: u32,
     to: u32,
 ) -> Result<A::Value, TextFault>
-    ensures { (ms : List (Record MarkRow MarkTotals)) → ToldBy A.Measure.means S.Store.bytes S.Store.capacity S.Store.reads slots.now ms head.now (Range from to) (λ m. A.Measure.means (slice («text_of» m) from to)) store.old store.new result }
+    ensures { (ms : List (Record MarkRow MarkTotals)) → ToldBy A.Measure.means S.Store.contents slots.now ms head.now (Range from to) (λ m. A.Measure.means (slice («text_of» m) from to)) store.old store.new result }
 {
-    let size = sound(size_of::<A>(slots, head.text))?;
-    if from > to {
+    let size = size_of::<A>(slots, head.text)?;
+    if from > to || to > size {
         return Err(TextFault::Offset);
     }
-    if to > size {
-        return Err(TextFault::Offset);
-    }
-    sound(measure_between::<S, A>(slots, store, head.text, from, to))
+    Ok(measure_between::<S, A>(slots, store, head.text, from, to)?)
 }

@@ -10,7 +10,6 @@ ghost use Rattle.pieces.specs.Asked.{Told};
 
 use lexer::summing::sum_up;
 use measures::Measure;
-use pieces::faults::sound;
 use pieces::head::{Head, TextMeasure, TextRecord};
 use pieces::rows::PieceRow;
 use plain::answers::Summary;
@@ -23,6 +22,6 @@ pub fn whole<A: Measure<Item = u8>>(
 ) -> Result<Summary, TextFault>
     ensures { (B : List ℕ) (ms : List (Record MarkRow MarkTotals)) → Told A.Measure.means B slots.now ms head.now Whole (λ m. summary (text m)) result }
 {
-    let value = sound(tree_value::<PieceRow, TextMeasure<A>>(slots, head.text))?;
+    let value = tree_value::<PieceRow, TextMeasure<A>>(slots, head.text)?;
     Ok(sum_up(&value.left.left, &value.left.right))
 }

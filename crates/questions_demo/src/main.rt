@@ -73,8 +73,8 @@ fn in_large_pieces(
 
 fn main(rt: HostRuntime) -> anyhow::Result<()> {
     let heap = rt.alloc();
-    let mut slots = vec![in heap; Record::Free(Link::End); 1000]?;
-    let mut marks = vec![in heap; Record::Free(Link::End); 200]?;
+    let mut slots = vec![in heap; Record::Free(None); 1000]?;
+    let mut marks = vec![in heap; Record::Free(None); 200]?;
     let mut space = vec![in heap; 0u8; 1024]?;
     let mut made = Made::new();
     println!(rt; "in small pieces:")?;

@@ -1,4 +1,3 @@
 mod Splitting
-mod Steps
-mod Rounds
 mod Opening
+mod Steps

@@ -1,16 +1,19 @@
 -- The line that opens a text.
-use Rattle.std.proofs.Common.{◌≡◌, ℕ, ◌+◌, ◌≤◌, Bool, true, false, cond, leb, List, [], ◌∷◌, ◌++◌, length, IfOk, Some, None, Ok, Err, codes, Option, Result, refl, ap, ◌∙◌, append_assoc, arith}
+use Rattle.std.proofs.Common.{◌≡◌, ℕ, suc, ◌+◌, ◌/◌, ◌%◌, ◌≤◌, Bool, true, false, cond, leb, List, [], ◌∷◌, ◌++◌, length, Some, None, Ok, Err, codes, Option, Result, refl, ap, ◌∙◌, arith}
 use Rattle.std.proofs.lemmas.Bool.{leb-true, le-leb}
 use Rattle.std.specs.Option.{option_map}
 use Rattle.plain.specs.Lists.{same}
-use Rattle.plain.specs.Machine.{Machine, Call, fresh}
-use Rattle.plain.specs.Script.{Request, parted, hexes, at_most, plainly, with_one, with_two, read_fields, request_of_line, lines_of, printed, answer_fields, opens}
+use Rattle.plain.specs.Machine.{Machine, Call, text, fresh}
+use Rattle.plain.specs.Script.{Request, State, parted, hexes, at_most, plainly, with_one, with_two, read_fields, request_of_line, printed, answer_fields, opens, line_step}
 use Rattle.plain.specs.declared.answers.Answer.TheVariants.{Done}
 use Rattle.plain.specs.declared.calls.Request.TheVariants as request
 use Rattle.plain.specs.declared.faults.TextFault.{TextFault}
 use Rattle.plain.specs.declared.faults.TextFault.TheVariants.{Pieces}
-use Rattle.script.specs.Early.{early_step, early_from, opened}
-use Rattle.script.proofs.Steps.{opened_text}
+use Rattle.plain.proofs.Opened.{blocks_spell}
+use Rattle.script.specs.Engines.{opened, Waits}
+
+pub opened_text : (s : List ℕ) → text (opened s) ≡ s
+opened_text s = blocks_spell s (length s / 256) 0 (length s % 256) (omega arith)
 
 -- A record that opens has at most 2048 bytes.
 module _ (s : List ℕ) where
@@ -45,23 +48,13 @@ module _ (s : List ℕ) where
       go false e = let z : ◌≡◌ {A = ℕ} 0 1 = cc in absurd (omega arith)
 
   -- 168 slots have room for 20 pieces
-  pub step_open : (i : ℕ) (l : List ℕ) → request_of_line l ≡ Some (request.Open s) → early_step i None (request_of_line l) ≡ (Some (opened s), answer_fields (length s) Done)
+  step_open : (i : ℕ) (l : List ℕ) → request_of_line l ≡ Some (request.Open s) → line_step i None (request_of_line l) ≡ (Some (opened s), answer_fields (length s) Done)
   step_open i l e =
       let h : length s ≤ 5120 = omega (arith, open_short l e) in
-      ap (early_step i None) e
+      ap (line_step i None) e
       ∙ ap (λ (b : Bool). opens i (elim (cond b None (Some Pieces)) as (λ _. Result Machine TextFault) [ None ↦ Ok (fresh s (length s + 4096) 168 168) | Some f ↦ Err f ])) (le-leb (length s) 5120 h)
       ∙ ap (λ (t : List ℕ). (Some (opened s), answer_fields (length t) Done)) (opened_text s)
 
--- What is printed after a text t is opened, which is s after none.
-pub open_lines : {T E : Type 0} (r : Result T E) (i : ℕ) (none s v t rest : List ℕ) (n : ℕ) (old mid new : List ℕ)
-    → none ≡ [] → v ≡ none ++ s → t ≡ v → n ≡ length s → mid ≡ old ++ printed (answer_fields n Done)
-    → IfOk r (λ _. new ≡ mid ++ early_from i (Some (opened t)) (lines_of rest))
-    → IfOk r (λ _. new ≡ old ++ (printed (answer_fields (length s) Done) ++ early_from i (Some (opened s)) (lines_of rest)))
-open_lines (Err x) i none s v t rest n old mid new z d e f p h = tt
-open_lines (Ok x) i none s v t rest n old mid new z d e f p h =
-    let all : t ≡ s = e ∙ d ∙ ap (λ (l : List ℕ). l ++ s) z in
-    h
-    ∙ ap (λ (o : List ℕ). o ++ early_from i (Some (opened t)) (lines_of rest)) p
-    ∙ ap (λ (k : ℕ). (old ++ printed (answer_fields k Done)) ++ early_from i (Some (opened t)) (lines_of rest)) f
-    ∙ ap (λ (k : List ℕ). (old ++ printed (answer_fields (length s) Done)) ++ early_from i (Some (opened k)) (lines_of rest)) all
-    ∙ append_assoc old (printed (answer_fields (length s) Done)) (early_from i (Some (opened s)) (lines_of rest))
+-- what is printed of lines, of which the first opens s
+pub open_more : (prints : ℕ → State → List (List ℕ) → List ℕ) → Waits prints → (i : ℕ) (l s : List ℕ) (more : List (List ℕ)) → request_of_line l ≡ Some (request.Open s) → prints i None (l ∷ more) ≡ printed (answer_fields (length s) Done) ++ prints (suc i) (Some (opened s)) more
+open_more prints waits i l s more e = waits.reads i l more ∙ ap (λ (x : State × List (List ℕ)). printed x.1 ++ prints (suc i) x.0 more) (step_open s i l e)

@@ -1,16 +1,14 @@
 -- What is answered as long as the engine is missing: texts are opened and summed up, and every other call is refused
 -- as one that is not allowed. With the engine this file goes, and the plain `panel` takes the place of `early_panel`.
-use Rattle.std.specs.Prelude.{ℕ, suc, ◌+◌, Bool, true, false, cond, List, [], ◌∷◌, ◌++◌, length, Some, None, Ok, Err, Option, Result}
-use Rattle.plain.specs.Questions.{summary}
-use Rattle.plain.specs.Machine.{Machine, Call, fresh}
+use Rattle.std.specs.Prelude.{◌≡◌, ℕ, suc, Bool, true, false, cond, List, [], ◌∷◌, ◌++◌, Some, None, Option, refl}
+use Rattle.std.proofs.Common.{ap}
+use Rattle.plain.specs.Machine.{Call}
 use Rattle.plain.specs.Script.{Request, State, line_step, refused_at, request_of_line, lines_of, printed}
-use Rattle.plain.specs.declared.answers.Answer.{Answer}
-use Rattle.plain.specs.declared.answers.Answer.TheVariants as answer
 use Rattle.plain.specs.declared.calls.Call.TheVariants as call
 use Rattle.plain.specs.declared.calls.Request.TheVariants as request
-use Rattle.plain.specs.declared.faults.CallFault.{CallFault}
 use Rattle.plain.specs.declared.faults.CallFault.TheVariants.{NotAllowed}
 use Rattle.plain.specs.declared.faults.LineFault.TheVariants as fault
+use Rattle.script.specs.Engines.{Waits}
 
 abbrev pub sums_up : Call → Bool
 sums_up (call.Insert p s) = false
@@ -45,10 +43,18 @@ early_from i m (l ∷ ls) = let x = early_step i m (request_of_line l) in printe
 abbrev pub early_panel : List ℕ → List ℕ
 early_panel input = early_from 1 None (lines_of input)
 
--- of a text s, what a call gives
-abbrev pub early_call : List ℕ → Call → Result (Answer ℕ) CallFault
-early_call s c = cond (sums_up c) (Ok (answer.Whole (summary s))) (Err NotAllowed)
+-- It opens texts as the plain script machine does.
+waits_step : (i : ℕ) (r : Option Request) → early_step i None r ≡ line_step i None r
+waits_step i None = refl
+waits_step i (Some (request.Open s)) = refl
+waits_step i (Some (request.Call c)) = by (sums_up c)
+  where
+    by : (b : Bool) → cond b (line_step i None (Some (request.Call c))) (None, refused_at i (fault.Call NotAllowed)) ≡ line_step i None (Some (request.Call c))
+    by true = refl
+    by false = refl
 
--- the text that was opened, which no line changes yet
-abbrev pub opened : List ℕ → Machine
-opened s = fresh s (length s + 4096) 168 168
+pub early_waits : Waits early_from
+early_waits = record {
+  ends = λ i. refl;
+  reads = λ i l ls. ap (λ (x : State × List (List ℕ)). printed x.1 ++ early_from (suc i) x.0 ls) (waits_step i (request_of_line l));
+}

@@ -1,2 +1,3 @@
+pub mod Engines
 pub mod Early
-pub mod Outcomes
+pub mod Input

@@ -27,6 +27,14 @@ module _ {R I V : Type 0} {means : List I → V} {until : V → Bool} {rs : List
   lands_past : b ≡ false → (items : R → List I) (w : List I) (X : List R) → Lands means until items rs w X p found → Past means until items w X p
   lands_past nay items w X f = ⊎_elim (λ h. h.1) (λ h. let n = was_none o tested nay in let x = h.1 in absurd (let z : ◌≡◌ {A = ℕ} 0 1 = cc in omega arith)) f
 
+-- nothing is searched after an error
+module _ {R I V : Type 0} {weigh : I → ℕ} {means : List I → V} {until : V → Bool} {rs : List (Record R V)} {height : ℕ} {x : Unsound} {p p' : V} {r : Result (Option ℕ) Unsound} where
+  pub digit_then_stopped : {d : Option Digit} → DigitThen weigh means until rs height (Err x) d p p' r
+  digit_then_stopped = record { lands = λ items w X A e fit light f. ⊎_elim (λ h. absurd (ok_err h.0 refl)) (λ h. absurd (ok_err h.1 refl)) f }
+
+  pub tree_then_stopped : {tr : Tree} → TreeThen weigh means until rs height (Err x) tr p p' r
+  tree_then_stopped = record { lands = λ items w X t e fit low light f. ⊎_elim (λ h. absurd (ok_err h.0 refl)) (λ h. absurd (ok_err h.1 refl)) f }
+
 module _ {R I V : Type 0} {weigh : I → ℕ} {means : List I → V} {until : V → Bool} {rs : List (Record R V)} {height : ℕ} {found : Result (Option ℕ) Unsound} {o : Option ℕ} {b : Bool} {p : V} (ok : found ≡ Ok o) (tested : b ≡ is_some o) where
   pub digit_then_found : {d : Option Digit} → b ≡ true → DigitThen weigh means until rs height found d p p (Ok o)
   digit_then_found some = record { lands = λ items w X A e fit light f. lands_kept ok tested some items w X (rows_part A) f }

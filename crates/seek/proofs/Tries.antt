@@ -5,8 +5,8 @@ use Rattle.measures.specs.Law.{weights, heaviest}
 use Rattle.slots.specs.Ghost.{Twig, Arm, a1, a2, a3, a4, none, rows_twig, rows_arm, rows_part, rows, FitArm, Fit}
 use Rattle.slots.specs.Values.{flat, mean, value_in, JoinedOk}
 use Rattle.slots.proofs.Shapes.{ok_err, ok_same, arm_one, arm_two, arm_three, arm_four, tree_empty, tree_single, tree_deep}
-use Rattle.slots.proofs.Reading.{twig_value, deep_value}
-use Rattle.std.specs.Prelude.{◌≡◌, Bool, true, false, List, ◌++◌, ℕ, ◌≤◌, get_or}
+use Rattle.slots.proofs.Joined.{twig_value, deep_value}
+use Rattle.std.specs.Prelude.{◌≡◌, Bool, true, false, List, ◌++◌, ◌⊎◌, ℕ, ◌≤◌, get_or}
 use Rattle.std.specs.declared.option.Option.{Option}
 use Rattle.std.specs.declared.option.Option.TheVariants.{None, Some}
 use Rattle.std.specs.declared.result.Result.{Result}
@@ -36,19 +36,23 @@ module _ {R I V : Type 0} {weigh : I → ℕ} {means : List I → V} {says : V �
   pub reach_empty : {tr : Tree} {p : V} → tr ≡ Empty → TreePassed weigh means says rs tr p p (Ok false)
   reach_empty {tr} {p} is = record { passes = λ items w t k e fit light at. tree_empty (λ t. Passes weigh means says items w (rows t) p p (Ok false)) (inr (refl, past_none items w at)) t (e ∙ is) }
 
-  pub reach_single : {tr : Tree} {i : ℕ} {p p' : V} {r : Result Bool Unsound} → tr ≡ Single i → Passed weigh means says rs i p p' r → TreePassed weigh means says rs tr p p' r
+  reach_single : {tr : Tree} {i : ℕ} {p p' : V} {r : Result Bool Unsound} → tr ≡ Single i → Passed weigh means says rs i p p' r → TreePassed weigh means says rs tr p p' r
   reach_single {tr} {i} {p} {p'} {r} is pass = record {
     passes = λ items w t k e fit light at.
         tree_single (λ t. Fit (mean means items) rs t k → weights weigh (upto items w (rows t)) ≤ heaviest → Passes weigh means says items w (rows t) p p' r) i
         (λ u eu f l. pass.passes items w (rows_twig u) (twig_value (mean means items) rs u k i eu f) l at) t (e ∙ is) fit light;
   }
 
-  pub reach_deep : {tr : Tree} {i : ℕ} {p p' : V} {r : Result Bool Unsound} → tr ≡ Deep i → Passed weigh means says rs i p p' r → TreePassed weigh means says rs tr p p' r
+  reach_deep : {tr : Tree} {i : ℕ} {p p' : V} {r : Result Bool Unsound} → tr ≡ Deep i → Passed weigh means says rs i p p' r → TreePassed weigh means says rs tr p p' r
   reach_deep {tr} {i} {p} {p'} {r} is pass = record {
     passes = λ items w t k e fit light at.
         tree_deep (λ t. Fit (mean means items) rs t k → weights weigh (upto items w (rows t)) ≤ heaviest → Passes weigh means says items w (rows t) p p' r) i
         (λ j v F m B ej f l. pass.passes items w ((rows_arm F ++ rows m) ++ rows_arm B) (ap (λ q. value_in (get_or rs q none)) (sym ej) ∙ deep_value (mean means items) rs j v F m B k f) l at) t (e ∙ is) fit light;
   }
+
+  pub reach_slot : {tr : Tree} {i : ℕ} {p p' : V} {r : Result Bool Unsound} → (tr ≡ Single i) ⊎ (tr ≡ Deep i) → Passed weigh means says rs i p p' r → TreePassed weigh means says rs tr p p' r
+  reach_slot (inl is) pass = reach_single is pass
+  reach_slot (inr is) pass = reach_deep is pass
 
   none_past : (items : R → List I) (w : List I) (A : Arm R V) (k : ℕ) (X : List R) {p : V} {before : Result (Option Cut) Unsound} {taken : Option Cut}
       → Tries weigh means says items rs w A k X p before → before ≡ Ok taken → taken ≡ None → Past means says items w X p
@@ -85,6 +89,10 @@ module _ {R I V : Type 0} {weigh : I → ℕ} {means : List I → V} {says : V �
       tries = λ items w A L u Q k e s light tr.
           ⊎_elim (λ o. absurd (ok_err o.0 qe)) (λ o. absurd (ok_err o.0 qe)) (passed_at items w A L u Q k e s light (none_past items w A k (rows_part L) tr was (was_none taken tested is)));
     }
+
+  -- nothing is tried after an error
+  pub tried_stopped : {x : Unsound} {c : Cut} {p p' : V} {r : Result (Option Cut) Unsound} → Tried weigh means says rs (Err x) c p p' r
+  tried_stopped = record { tries = λ items w A L u Q k e s light tr. ⊎_elim (λ o. absurd (ok_err o.0 refl)) (λ o. absurd (ok_err o.ok refl)) tr }
 
   -- the digits
   module _ {d : Digit} {p : V} where

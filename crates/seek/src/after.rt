@@ -1,27 +1,26 @@
 // The search among the elements after one that another probe finds.
-ghost use Rattle.std.specs.Prelude.{◌≡◌};
+ghost use Rattle.std.specs.Prelude.{◌≡◌, Ok};
 ghost use Rattle.seek.specs.Beyond.{DigitThen, TreeThen, TwigAfter, DigitAfter, TreeAfter, SoughtAfter};
 
 use crate::digits::{pick, reaches_tree};
-use crate::search::{LEVELS, search_digit, search_tree};
+use crate::search::{search_digit, search_tree};
 use measures::{Measure, Probe};
-use slots::arena::{parts_at, spine_at};
-use slots::records::{Digit, Record, Tree, Unsound};
+use slots::reading::{parts_at, spine_at};
+use slots::records::{Digit, LEVELS, Record, Tree, Unsound};
 
 // Goes on with a digit, if there is one and nothing was found before.
 fn then_digit<R: Copy, M: Measure, P: Probe<M>>(
     slots: &[Record<R, M::Value>],
     height: u8,
-    found: Result<Option<u16>, Unsound>,
+    found: Option<u16>,
     digit: Option<Digit>,
     until: &P,
     place: &mut M::Value,
 ) -> Result<Option<u16>, Unsound>
-    ensures { DigitThen M.Item.Weigh.weight M.Measure.means (P.Probe.says until.now) slots.now height found digit place.old place.new result }
+    ensures { DigitThen M.Item.Weigh.weight M.Measure.means (P.Probe.says until.now) slots.now height (Ok found) digit place.old place.new result }
 {
-    let earlier = found?;
-    if earlier.is_some() {
-        return Ok(earlier);
+    if found.is_some() {
+        return Ok(found);
     }
     match digit {
         Some(digit) => search_digit::<R, M, P>(slots, height, digit, until, place),
@@ -32,16 +31,15 @@ fn then_digit<R: Copy, M: Measure, P: Probe<M>>(
 fn then_tree<R: Copy, M: Measure, P: Probe<M>>(
     slots: &[Record<R, M::Value>],
     height: u8,
-    found: Result<Option<u16>, Unsound>,
+    found: Option<u16>,
     tree: Tree,
     until: &P,
     place: &mut M::Value,
 ) -> Result<Option<u16>, Unsound>
-    ensures { TreeThen M.Item.Weigh.weight M.Measure.means (P.Probe.says until.now) slots.now height found tree place.old place.new result }
+    ensures { TreeThen M.Item.Weigh.weight M.Measure.means (P.Probe.says until.now) slots.now height (Ok found) tree place.old place.new result }
 {
-    let earlier = found?;
-    if earlier.is_some() {
-        return Ok(earlier);
+    if found.is_some() {
+        return Ok(found);
     }
     search_tree::<R, M, P>(slots, height, tree, until, place)
 }
@@ -62,21 +60,9 @@ fn after_twig<R: Copy, M: Measure, F: Probe<M>, P: Probe<M>>(
         return Ok(None);
     }
     let parts = parts_at(slots, i)?;
-    match pick::<R, M, F>(slots, parts, from, start)? {
-        Some(cut) => {
-            let found = after_twig::<R, M, F, P>(
-                slots,
-                height - 1,
-                cut.at,
-                from,
-                start,
-                until,
-                place,
-            );
-            then_digit::<R, M, P>(slots, height - 1, found, cut.right, until, place)
-        }
-        None => Err(Unsound),
-    }
+    let cut = pick::<R, M, F>(slots, parts, from, start)?.ok_or(Unsound)?;
+    let found = after_twig::<R, M, F, P>(slots, height - 1, cut.at, from, start, until, place)?;
+    then_digit::<R, M, P>(slots, height - 1, found, cut.right, until, place)
 }
 
 fn after_digit<R: Copy, M: Measure, F: Probe<M>, P: Probe<M>>(
@@ -90,13 +76,11 @@ fn after_digit<R: Copy, M: Measure, F: Probe<M>, P: Probe<M>>(
 ) -> Result<Option<u16>, Unsound>
     ensures { DigitAfter M.Item.Weigh.weight M.Measure.means (F.Probe.says from.now) (P.Probe.says until.now) slots.now height digit start.old place.old place.new result }
 {
-    match pick::<R, M, F>(slots, digit, from, start)? {
-        Some(cut) => {
-            let found = after_twig::<R, M, F, P>(slots, height, cut.at, from, start, until, place);
-            then_digit::<R, M, P>(slots, height, found, cut.right, until, place)
-        }
-        None => Ok(None),
-    }
+    let Some(cut) = pick::<R, M, F>(slots, digit, from, start)? else {
+        return Ok(None);
+    };
+    let found = after_twig::<R, M, F, P>(slots, height, cut.at, from, start, until, place)?;
+    then_digit::<R, M, P>(slots, height, found, cut.right, until, place)
 }
 
 // In a tree whose slots are `height` nodes up.
@@ -121,33 +105,27 @@ fn after_tree<R: Copy, M: Measure, F: Probe<M>, P: Probe<M>>(
             if height >= LEVELS {
                 return Err(Unsound);
             }
-            match pick::<R, M, F>(slots, level.front, from, start)? {
-                Some(cut) => {
-                    let x = after_twig::<R, M, F, P>(
-                        slots, height, cut.at, from, start, until, place,
-                    );
-                    let y = then_digit::<R, M, P>(slots, height, x, cut.right, until, place);
-                    let z = then_tree::<R, M, P>(slots, height + 1, y, level.middle, until, place);
-                    then_digit::<R, M, P>(slots, height, z, Some(level.back), until, place)
-                }
-                None => {
-                    if !reaches_tree::<R, M, F>(slots, level.middle, from, start)? {
-                        return after_digit::<R, M, F, P>(
-                            slots, height, level.back, from, start, until, place,
-                        );
-                    }
-                    let x = after_tree::<R, M, F, P>(
-                        slots,
-                        height + 1,
-                        level.middle,
-                        from,
-                        start,
-                        until,
-                        place,
-                    );
-                    then_digit::<R, M, P>(slots, height, x, Some(level.back), until, place)
-                }
+            if let Some(cut) = pick::<R, M, F>(slots, level.front, from, start)? {
+                let x = after_twig::<R, M, F, P>(slots, height, cut.at, from, start, until, place)?;
+                let y = then_digit::<R, M, P>(slots, height, x, cut.right, until, place)?;
+                let z = then_tree::<R, M, P>(slots, height + 1, y, level.middle, until, place)?;
+                return then_digit::<R, M, P>(slots, height, z, Some(level.back), until, place);
             }
+            if !reaches_tree::<R, M, F>(slots, level.middle, from, start)? {
+                return after_digit::<R, M, F, P>(
+                    slots, height, level.back, from, start, until, place,
+                );
+            }
+            let x = after_tree::<R, M, F, P>(
+                slots,
+                height + 1,
+                level.middle,
+                from,
+                start,
+                until,
+                place,
+            )?;
+            then_digit::<R, M, P>(slots, height, x, Some(level.back), until, place)
         }
     }
 }

@@ -1,5 +1,5 @@
 // Where a probe turns yes among the slots of a digit.
-ghost use Rattle.std.specs.Prelude.{◌≡◌};
+ghost use Rattle.std.specs.Prelude.{◌≡◌, Ok};
 ghost use Rattle.seek.specs.Post.{Passed, TreePassed, Tried, Picked};
 
 use measures::{Measure, Probe};
@@ -50,22 +50,20 @@ pub fn reaches_tree<R: Copy, M: Measure, P: Probe<M>>(
 {
     match tree {
         Tree::Empty => Ok(false),
-        Tree::Single(i) => reaches::<R, M, P>(slots, i, probe, place),
-        Tree::Deep(i) => reaches::<R, M, P>(slots, i, probe, place),
+        Tree::Single(i) | Tree::Deep(i) => reaches::<R, M, P>(slots, i, probe, place),
     }
 }
 
 // Tries the slot of the cut, where none before it was taken.
 fn attempt<R: Copy, M: Measure, P: Probe<M>>(
     slots: &[Record<R, M::Value>],
-    before: Result<Option<Cut>, Unsound>,
+    taken: Option<Cut>,
     cut: Cut,
     probe: &P,
     place: &mut M::Value,
 ) -> Result<Option<Cut>, Unsound>
-    ensures { Tried M.Item.Weigh.weight M.Measure.means (P.Probe.says probe.now) slots.now before cut place.old place.new result }
+    ensures { Tried M.Item.Weigh.weight M.Measure.means (P.Probe.says probe.now) slots.now (Ok taken) cut place.old place.new result }
 {
-    let taken = before?;
     if taken.is_some() {
         return Ok(taken);
     }
@@ -87,20 +85,20 @@ pub fn pick<R: Copy, M: Measure, P: Probe<M>>(
     match digit {
         Digit::One(a) => {
             let only = Cut::new(None, a, None);
-            attempt::<R, M, P>(slots, Ok(None), only, probe, place)
+            attempt::<R, M, P>(slots, None, only, probe, place)
         }
         Digit::Two(a, b) => {
             let first = Cut::new(None, a, Some(Digit::One(b)));
             let second = Cut::new(Some(Digit::One(a)), b, None);
-            let x = attempt::<R, M, P>(slots, Ok(None), first, probe, place);
+            let x = attempt::<R, M, P>(slots, None, first, probe, place)?;
             attempt::<R, M, P>(slots, x, second, probe, place)
         }
         Digit::Three(a, b, c) => {
             let first = Cut::new(None, a, Some(Digit::Two(b, c)));
             let second = Cut::new(Some(Digit::One(a)), b, Some(Digit::One(c)));
             let third = Cut::new(Some(Digit::Two(a, b)), c, None);
-            let x = attempt::<R, M, P>(slots, Ok(None), first, probe, place);
-            let y = attempt::<R, M, P>(slots, x, second, probe, place);
+            let x = attempt::<R, M, P>(slots, None, first, probe, place)?;
+            let y = attempt::<R, M, P>(slots, x, second, probe, place)?;
             attempt::<R, M, P>(slots, y, third, probe, place)
         }
         Digit::Four(a, b, c, d) => {
@@ -108,9 +106,9 @@ pub fn pick<R: Copy, M: Measure, P: Probe<M>>(
             let second = Cut::new(Some(Digit::One(a)), b, Some(Digit::Two(c, d)));
             let third = Cut::new(Some(Digit::Two(a, b)), c, Some(Digit::One(d)));
             let fourth = Cut::new(Some(Digit::Three(a, b, c)), d, None);
-            let x = attempt::<R, M, P>(slots, Ok(None), first, probe, place);
-            let y = attempt::<R, M, P>(slots, x, second, probe, place);
-            let z = attempt::<R, M, P>(slots, y, third, probe, place);
+            let x = attempt::<R, M, P>(slots, None, first, probe, place)?;
+            let y = attempt::<R, M, P>(slots, x, second, probe, place)?;
+            let z = attempt::<R, M, P>(slots, y, third, probe, place)?;
             attempt::<R, M, P>(slots, z, fourth, probe, place)
         }
     }

@@ -4,11 +4,8 @@ ghost use Rattle.seek.specs.Post.{TwigSearched, DigitSearched, TreeSearched, Sea
 
 use crate::digits::{pick, reaches_tree};
 use measures::{Measure, Probe};
-use slots::arena::{parts_at, spine_at};
-use slots::records::{Digit, Record, Tree, Unsound};
-
-// More levels than any tree in sound memory has.
-pub const LEVELS: u8 = 16;
+use slots::reading::{parts_at, spine_at};
+use slots::records::{Digit, LEVELS, Record, Tree, Unsound};
 
 // The leaf below slot i, which is `height` nodes up, where the probe turns yes.
 pub fn search_twig<R: Copy, M: Measure, P: Probe<M>>(
@@ -24,10 +21,8 @@ pub fn search_twig<R: Copy, M: Measure, P: Probe<M>>(
         return Ok(i);
     }
     let parts = parts_at(slots, i)?;
-    match pick::<R, M, P>(slots, parts, probe, place)? {
-        Some(cut) => search_twig::<R, M, P>(slots, height - 1, cut.at, probe, place),
-        None => Err(Unsound),
-    }
+    let cut = pick::<R, M, P>(slots, parts, probe, place)?.ok_or(Unsound)?;
+    search_twig::<R, M, P>(slots, height - 1, cut.at, probe, place)
 }
 
 pub fn search_digit<R: Copy, M: Measure, P: Probe<M>>(
@@ -39,13 +34,11 @@ pub fn search_digit<R: Copy, M: Measure, P: Probe<M>>(
 ) -> Result<Option<u16>, Unsound>
     ensures { DigitSearched M.Item.Weigh.weight M.Measure.means (P.Probe.says probe.now) slots.now height digit place.old place.new result }
 {
-    match pick::<R, M, P>(slots, digit, probe, place)? {
-        Some(cut) => {
-            let leaf = search_twig::<R, M, P>(slots, height, cut.at, probe, place)?;
-            Ok(Some(leaf))
-        }
-        None => Ok(None),
-    }
+    let Some(cut) = pick::<R, M, P>(slots, digit, probe, place)? else {
+        return Ok(None);
+    };
+    let leaf = search_twig::<R, M, P>(slots, height, cut.at, probe, place)?;
+    Ok(Some(leaf))
 }
 
 // In a tree whose slots are `height` nodes up.

@@ -32,6 +32,11 @@ pub pick_flipped : {A : Type 0} (s : Side) (a b : A) → pick (flipped s) a b �
 pick_flipped Front a b = refl
 pick_flipped Back a b = refl
 
+-- each side takes its own of the four
+pub peel_four : (s : Side) (d : Digit) {a b c e : ℕ} {x : ℕ} {r : Digit} → d ≡ Four a b c e → x ≡ pick s a e → r ≡ pick s (Three b c e) (Three a b c) → ◌≡◌ {A = Peel} (record { slot = x; rest = Some r }) (peeled s d)
+peel_four Front d is xe re = cc
+peel_four Back d is xe re = cc
+
 -- one slot less
 pub count_peeled : (s : Side) (d : Digit) {o : Peel} → o ≡ peeled s d → count o.rest < count (Some d)
 count_peeled s d is = omega (arith, ap (λ (q : Peel). count q.rest) is, go s d)
@@ -45,6 +50,9 @@ count_peeled s d is = omega (arith, ap (λ (q : Peel). count q.rest) is, go s d)
     go Back (Two a b) = omega arith
     go Back (Three a b c) = omega arith
     go Back (Four a b c d) = omega arith
+
+pub count_rest : (s : Side) (d : Digit) {o : Peel} {rest : Digit} → o ≡ peeled s d → o.rest ≡ Some rest → count (Some rest) < count (Some d)
+count_rest s d is found = omega (arith, ap count found, count_peeled s d is)
 
 pub count_four : (p : Option Digit) → count p ≤ 4
 count_four None = omega arith

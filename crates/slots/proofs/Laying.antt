@@ -2,9 +2,10 @@
 use Rattle.std.proofs.Common.{is_err, sym, refl, ap, ◌∙◌, subst, ⊎_elim, arith}
 use Rattle.std.proofs.lemmas.List.{drop-set-lt}
 use Rattle.std.specs.Prelude.{◌≡◌, true, List, ℕ, zero, suc, ◌+◌, ◌≤◌, ◌<◌, length, set, drop}
+use Rattle.std.specs.declared.option.Option.TheVariants.{None, Some}
 use Rattle.std.specs.declared.result.Result.{Result}
 use Rattle.std.specs.declared.result.Result.TheVariants.{Ok, Err}
-use Rattle.slots.specs.Words.{Unsound, Link, End, To, Record, Free, Leaf}
+use Rattle.slots.specs.Words.{Unsound, Link, Record, Free, Leaf}
 use Rattle.slots.specs.Ghost.{same, occ_list, head_of, At, Chain}
 use Rattle.slots.specs.Post.{counting, watched, LaidOut, Taken, Wrote, Given, LeafPut}
 use Rattle.slots.proofs.Frames.{same_self, same_cases, put, frame_chain}
@@ -29,23 +30,22 @@ module _ {R V : Type 0} where
     pub len : length rs ≡ length rs₀
     pub later : drop w rs ≡ drop w rs₀
 
-  pub laying_none : (rs : List (Record R V)) (i : ℕ) {w : ℕ} → i ≡ w → Laying rs rs End i w
+  pub laying_none : (rs : List (Record R V)) (i : ℕ) {w : ℕ} → i ≡ w → Laying rs rs None i w
   laying_none rs i e = record { n = 0; till = omega arith; first = refl; chain = tt; len = refl; later = refl }
 
-  pub laying_more : {rs₀ rs rs' : List (Record R V)} {f f' : Link} {w : ℕ} {r : Result (Unit {0}) Unsound} (i : ℕ) → i < length rs → Given rs rs' f f' i r → Laying rs₀ rs f (i + 1) w → Laying rs₀ rs' f' i w
-  laying_more {rs₀} {rs} {rs'} {f} {f'} {w} i lt give L =
-      let g = give.gives lt in
-      let p = put {rs = rs} lt g.2 in
+  pub laying_more : {rs₀ rs : List (Record R V)} {f : Link} {w : ℕ} (i : ℕ) → i < length rs → Laying rs₀ rs f (i + 1) w → Laying rs₀ (set rs i (Free f)) (Some i) i w
+  laying_more {rs₀} {rs} {f} {w} i lt L =
+      let p = put {rs = rs} lt refl in
       record {
         n = suc L.n;
         till = omega (arith, L.till);
-        first = g.1;
+        first = refl;
         chain = (
-          subst (λ q. At rs' i (Free q)) L.first p.at,
+          subst (λ q. At (set rs i (Free f)) i (Free q)) L.first p.at,
           frame_chain p.off (counting (i + 1) L.n) (λ k. ⊎_elim (λ e. omega (arith, counting_low (i + 1) L.n k (omega arith), subst (λ q. same i q ≡ 1) (sym e) (same_self i))) (λ z. omega (arith, z.0, counting_once (i + 1) L.n k)) (same_cases i k)) L.chain,
         );
         len = p.off.len ∙ L.len;
-        later = ap (λ q. drop w q) g.2 ∙ drop-set-lt w rs i (Free f) (omega (arith, L.till)) ∙ L.later;
+        later = drop-set-lt w rs i (Free f) (omega (arith, L.till)) ∙ L.later;
       }
 
   pub laid_out : {rs₀ rs : List (Record R V)} {f : Link} {i w : ℕ} → w ≡ watched (length rs₀) → i ≤ 0 → Laying rs₀ rs f i w → LaidOut rs₀ rs f
@@ -60,7 +60,7 @@ module _ {R V : Type 0} where
         later = subst (λ q. drop q rs ≡ drop q rs₀) ew L.later;
       }
 
-  pub given : {rs rs' : List (Record R V)} {f : Link} {i : ℕ} {w : Result (Unit {0}) Unsound} → Wrote rs rs' i (Free f) w → w ≡ Ok tt → Given rs rs' f (To i) i (Ok tt)
+  pub given : {rs rs' : List (Record R V)} {f : Link} {i : ℕ} {w : Result (Unit {0}) Unsound} → Wrote rs rs' i (Free f) w → w ≡ Ok tt → Given rs rs' f (Some i) i (Ok tt)
   given wr ok = record { gives = λ lt. (refl, refl, (wr.writes lt).1); refuses = λ ge. absurd (ok_err ok (wr.refuses ge).0) }
 
   pub not_given : {rs rs' : List (Record R V)} {f : Link} {i : ℕ} {w r : Result (Unit {0}) Unsound} {e : Unsound} → Wrote rs rs' i (Free f) w → w ≡ Err e → is_err r ≡ true → Given rs rs' f f i r

@@ -1,7 +1,7 @@
 pub mod Frames
 pub mod Shapes
 pub mod Weights
-pub mod Reading
+pub mod Joined
 pub mod Laying
 pub mod Ends
 pub mod Counts

@@ -2,7 +2,7 @@
 use Rattle.std.specs.Prelude.{◌≡◌, Bool, true, false, cond, List, [], ◌∷◌, ◌++◌, ◌⊎◌, ℕ, zero, suc, ◌+◌, ◌<◌, length, get_or, ◌==◌, nat_lt}
 use Rattle.std.specs.declared.option.Option.{Option}
 use Rattle.std.specs.declared.option.Option.TheVariants.{None, Some}
-use Rattle.slots.specs.Words.{Link, End, To, Digit, One, Two, Three, Four, Tree, Empty, Single, Deep, Record, Free, Leaf, Node2, Node3, Level}
+use Rattle.slots.specs.Words.{Link, Digit, One, Two, Three, Four, Tree, Empty, Single, Deep, Record, Free, Leaf, Node2, Node3, Level}
 
 -- a leaf or a node: its slot, its value, and the row or the twigs below it
 pub data Twig (R V : Type 0) : Type 0 where
@@ -37,13 +37,13 @@ occ_list [] k = 0
 occ_list (i ∷ is) k = same i k + occ_list is k
 
 abbrev pub head_of : List ℕ → Link
-head_of [] = End
-head_of (i ∷ is) = To i
+head_of [] = None
+head_of (i ∷ is) = Some i
 
 module _ {R V : Type 0} where
   -- what is read where there is no slot
   abbrev pub none : Record R V
-  none = Free End
+  none = Free None
 
   abbrev pub root : Twig R V → ℕ
   root (leaf i row v) = i

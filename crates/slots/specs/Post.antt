@@ -1,9 +1,10 @@
 -- What the calls of this crate promise.
 use Rattle.std.specs.Prelude.{◌≡◌, List, [], ◌∷◌, ◌++◌, ℕ, zero, suc, ◌+◌, ◌≤◌, ◌<◌, min, length, set, drop}
 use Rattle.std.specs.declared.option.Option.{Option}
+use Rattle.std.specs.declared.option.Option.TheVariants.{None, Some}
 use Rattle.std.specs.declared.result.Result.{Result}
 use Rattle.std.specs.declared.result.Result.TheVariants.{Ok, Err}
-use Rattle.slots.specs.Words.{Unsound, unsound, Link, End, To, Digit, Tree, Record, Free, Leaf}
+use Rattle.slots.specs.Words.{Unsound, unsound, Link, Digit, Tree, Record, Free, Leaf}
 use Rattle.slots.specs.Ghost.{Arm, Finger, head_of, digit_of, part_of, tree_of, rows_arm, rows_part, rows, FitArm, FitPart, Fit, Chain}
 use Rattle.slots.specs.Values.{mean, wt}
 use Rattle.measures.specs.Law.{heaviest}
@@ -27,8 +28,8 @@ module _ {R V : Type 0} where
 
   -- the first slot of the chain
   pub record Taken (rs : List (Record R V)) (f f' : Link) (r : Result ℕ Unsound) : Type 0 where
-    pub takes : (i : ℕ) (is : List ℕ) → f ≡ To i → Chain rs (i ∷ is) → (r ≡ Ok i) × (f' ≡ head_of is)
-    pub refuses : f ≡ End → (r ≡ Err unsound) × (f' ≡ f)
+    pub takes : (i : ℕ) (is : List ℕ) → f ≡ Some i → Chain rs (i ∷ is) → (r ≡ Ok i) × (f' ≡ head_of is)
+    pub refuses : f ≡ None → (r ≡ Err unsound) × (f' ≡ f)
 
   pub record Wrote (rs rs' : List (Record R V)) (i : ℕ) (c : Record R V) (r : Result (Unit {0}) Unsound) : Type 0 where
     pub writes : i < length rs → (r ≡ Ok tt) × (rs' ≡ set rs i c)
@@ -36,13 +37,13 @@ module _ {R V : Type 0} where
 
   -- slot i is the first of the chain
   pub record Given (rs rs' : List (Record R V)) (f f' : Link) (i : ℕ) (r : Result (Unit {0}) Unsound) : Type 0 where
-    pub gives : i < length rs → (r ≡ Ok tt) × (f' ≡ To i) × (rs' ≡ set rs i (Free f))
+    pub gives : i < length rs → (r ≡ Ok tt) × (f' ≡ Some i) × (rs' ≡ set rs i (Free f))
     pub refuses : length rs ≤ i → (r ≡ Err unsound) × (f' ≡ f) × (rs' ≡ rs)
 
   -- the first slot of the chain holds the leaf
   pub record LeafPut (rs rs' : List (Record R V)) (f f' : Link) (row : R) (v : V) (r : Result ℕ Unsound) : Type 0 where
-    pub puts : (i : ℕ) (is : List ℕ) → f ≡ To i → Chain rs (i ∷ is) → (r ≡ Ok i) × (f' ≡ head_of is) × (rs' ≡ set rs i (Leaf row v))
-    pub refuses : f ≡ End → (r ≡ Err unsound) × (f' ≡ f) × (rs' ≡ rs)
+    pub puts : (i : ℕ) (is : List ℕ) → f ≡ Some i → Chain rs (i ∷ is) → (r ≡ Ok i) × (f' ≡ head_of is) × (rs' ≡ set rs i (Leaf row v))
+    pub refuses : f ≡ None → (r ≡ Err unsound) × (f' ≡ f) × (rs' ≡ rs)
 
   module _ {I : Type 0} (weigh : I → ℕ) (means : List I → V) where
     pub record DigitValued (rs : List (Record R V)) (d : Digit) (r : Result V Unsound) : Type 0 where

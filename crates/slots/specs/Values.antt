@@ -4,7 +4,7 @@ use Rattle.std.specs.declared.option.Option.{Option}
 use Rattle.std.specs.declared.option.Option.TheVariants.{None, Some}
 use Rattle.std.specs.declared.result.Result.{Result}
 use Rattle.std.specs.declared.result.Result.TheVariants.{Ok, Err}
-use Rattle.slots.specs.Words.{Unsound, unsound, Digit, One, Two, Three, Four, Record, Free, Leaf, Node2, Node3, Level, Spine}
+use Rattle.slots.specs.Words.{Unsound, unsound, Link, Digit, One, Two, Three, Four, Record, Free, Leaf, Node2, Node3, Level, Spine}
 use Rattle.measures.specs.Law.{weights, heaviest}
 
 -- the items that rows stand for
@@ -38,6 +38,14 @@ module _ {R V : Type 0} where
   row_in (Node2 a b v) = Err unsound
   row_in (Node3 a b c v) = Err unsound
   row_in (Level f m b v) = Err unsound
+
+  -- the slot after a free one
+  abbrev pub next_in : Record R V → Result Link Unsound
+  next_in (Free n) = Ok n
+  next_in (Leaf row v) = Err unsound
+  next_in (Node2 a b v) = Err unsound
+  next_in (Node3 a b c v) = Err unsound
+  next_in (Level f m b v) = Err unsound
 
   -- the parts of a node
   abbrev pub parts_in : Record R V → Result Digit Unsound

@@ -1,7 +1,7 @@
 -- The types of the code, under one roof.
+use Rattle.std.specs.Prelude.{ℕ}
+use Rattle.std.specs.declared.option.Option.{Option}
 pub use Rattle.slots.specs.declared.records.Unsound.{Unsound}
-pub use Rattle.slots.specs.declared.records.Link.{Link}
-pub use Rattle.slots.specs.declared.records.Link.TheVariants.{End, To}
 pub use Rattle.slots.specs.declared.records.Digit.{Digit}
 pub use Rattle.slots.specs.declared.records.Digit.TheVariants.{One, Two, Three, Four}
 pub use Rattle.slots.specs.declared.records.Tree.{Tree}
@@ -17,3 +17,7 @@ pub use Rattle.slots.specs.declared.records.Peel.{Peel}
 
 abbrev pub unsound : Unsound
 unsound = record {}
+
+-- the next slot of a chain, if there is one
+abbrev pub Link : Type 0
+Link = Option ℕ

@@ -1,10 +1,14 @@
-// Slots of a lent slice: laying out, taking, giving back, reading and writing. Any contents are met with a result.
-ghost use Rattle.std.specs.Prelude.{◌≡◌, ℕ, ◌+◌, ◌<◌, ◌≤◌, length, slice_index_or};
+// Slots that are lent to be written: laying out, taking, giving back, writing and reading. Any contents are met with a
+// result.
+ghost use Rattle.std.specs.Prelude.{◌≡◌, ◌<◌, length, slice_index_or};
 ghost use Rattle.slots.specs.Ghost.{none};
-ghost use Rattle.slots.specs.Values.{row_in, parts_in, below_in, spine_in};
-ghost use Rattle.slots.specs.Post.{watched as «watched-of», LaidOut, Taken, Wrote, Given, LeafPut};
+ghost use Rattle.slots.specs.Values.{spine_in, next_in};
+ghost use Rattle.slots.specs.Post.{watched as «watched-of», LaidOut, Taken, Wrote, Given, LeafPut, DigitValued};
 
+use crate::reading::{next_at, spine_at};
 use crate::records::{Digit, Link, Record, Spine, Unsound};
+use crate::values::digit_value;
+use measures::Measure;
 
 // Later slots of a slice are never read or written.
 pub const WATCHED: u16 = 8316;
@@ -12,22 +16,17 @@ pub const WATCHED: u16 = 8316;
 pub fn watched(len: usize) -> u16
     ensures { result ≡ «watched-of» len }
 {
-    if len < WATCHED as usize {
-        len as u16
-    } else {
-        WATCHED
-    }
+    len.min(WATCHED as usize) as u16
 }
 
 // Makes a chain of all watched slots, in their order.
 pub fn lay_out<R: Copy, V: Copy>(slots: &mut [Record<R, V>]) -> Link
     ensures { LaidOut slots.old slots.new result }
 {
-    let mut free = Link::End;
-    let mut i = watched(slots.len());
-    while i > 0 {
-        i -= 1;
-        let _ = give_slot(slots, &mut free, i);
+    let mut free = None;
+    for i in (0..watched(slots.len())).rev() {
+        slots[i as usize] = Record::Free(free);
+        free = Some(i);
     }
     free
 }
@@ -35,21 +34,9 @@ pub fn lay_out<R: Copy, V: Copy>(slots: &mut [Record<R, V>]) -> Link
 pub fn take_slot<R: Copy, V: Copy>(slots: &[Record<R, V>], free: &mut Link) -> Result<u16, Unsound>
     ensures { Taken slots.now free.old free.new result }
 {
-    match *free {
-        Link::End => Err(Unsound),
-        Link::To(i) => {
-            if i as usize >= slots.len() {
-                return Err(Unsound);
-            }
-            match &slots[i as usize] {
-                Record::Free(next) => {
-                    *free = *next;
-                    Ok(i)
-                }
-                _ => Err(Unsound),
-            }
-        }
-    }
+    let i = free.ok_or(Unsound)?;
+    *free = next_at(slots, i)?;
+    Ok(i)
 }
 
 pub fn write_slot<R: Copy, V: Copy>(
@@ -74,7 +61,7 @@ pub fn give_slot<R: Copy, V: Copy>(
     ensures { Given slots.old slots.new free.old free.new i result }
 {
     write_slot(slots, i, Record::Free(*free))?;
-    *free = Link::To(i);
+    *free = Some(i);
     Ok(())
 }
 
@@ -91,74 +78,53 @@ pub fn put_leaf<R: Copy, V: Copy>(
     Ok(i)
 }
 
-// The record at i, or a free one where there is no slot.
-pub fn read<R: Copy, V: Copy>(slots: &[Record<R, V>], i: u16) -> Record<R, V>
-    ensures { result ≡ slice_index_or slots.now i none }
-{
-    if i as usize >= slots.len() {
-        return Record::Free(Link::End);
-    }
-    slots[i as usize]
+// The lent slots, whose values are those of a measure, and the first free one, where they go together from call to call.
+#[derive(Drop)]
+pub struct Arena<'a, R, M: Measure> {
+    pub slots: &'a mut [Record<R, M::Value>],
+    pub free: Link,
 }
 
-pub fn row_at<R: Copy, V: Copy>(slots: &[Record<R, V>], i: u16) -> Result<R, Unsound>
-    ensures { result ≡ row_in (slice_index_or slots.now i none) }
-{
-    if i as usize >= slots.len() {
-        return Err(Unsound);
+impl<R: Copy, M: Measure> Arena<'_, R, M> {
+    pub fn spine_at(&self, i: u16) -> Result<Spine, Unsound>
+        ensures { result ≡ spine_in (slice_index_or self.now.slots.now i none) }
+    {
+        spine_at(self.slots, i)
     }
-    match &slots[i as usize] {
-        Record::Leaf { row, .. } => Ok(*row),
-        _ => Err(Unsound),
-    }
-}
 
-// The slots below a node.
-pub fn parts_at<R: Copy, V: Copy>(slots: &[Record<R, V>], i: u16) -> Result<Digit, Unsound>
-    ensures { result ≡ parts_in (slice_index_or slots.now i none) }
-{
-    if i as usize >= slots.len() {
-        return Err(Unsound);
+    pub fn digit_value(&self, digit: Digit) -> Result<M::Value, Unsound>
+        ensures { DigitValued M.Item.Weigh.weight M.Measure.means self.now.slots.now digit result }
+    {
+        digit_value::<R, M>(self.slots, digit)
     }
-    match &slots[i as usize] {
-        Record::Node2 { a, b, .. } => Ok(Digit::Two(*a, *b)),
-        Record::Node3 { a, b, c, .. } => Ok(Digit::Three(*a, *b, *c)),
-        _ => Err(Unsound),
-    }
-}
 
-// Nothing below a leaf, the slots below a node.
-pub fn below_at<R: Copy, V: Copy>(slots: &[Record<R, V>], i: u16) -> Result<Option<Digit>, Unsound>
-    ensures { result ≡ below_in (slice_index_or slots.now i none) }
-{
-    if i as usize >= slots.len() {
-        return Err(Unsound);
+    fn next_at(&self, i: u16) -> Result<Link, Unsound>
+        ensures { i < length self.now.slots.now → result ≡ next_in (slice_index_or self.now.slots.now i none) }
+    {
+        next_at(self.slots, i)
     }
-    match &slots[i as usize] {
-        Record::Leaf { .. } => Ok(None),
-        Record::Node2 { a, b, .. } => Ok(Some(Digit::Two(*a, *b))),
-        Record::Node3 { a, b, c, .. } => Ok(Some(Digit::Three(*a, *b, *c))),
-        _ => Err(Unsound),
-    }
-}
 
-pub fn spine_at<R: Copy, V: Copy>(slots: &[Record<R, V>], i: u16) -> Result<Spine, Unsound>
-    ensures { result ≡ spine_in (slice_index_or slots.now i none) }
-{
-    if i as usize >= slots.len() {
-        return Err(Unsound);
+    pub fn take(&mut self) -> Result<u16, Unsound>
+        ensures same { self.new.slots.ghost_name ≡ self.old.slots.ghost_name }
+        ensures slots { self.new.slots.now ≡ self.old.slots.now }
+        ensures taken { Taken self.old.slots.now self.old.free self.new.free result }
+    {
+        let i = self.free.ok_or(Unsound)?;
+        self.free = self.next_at(i)?;
+        Ok(i)
     }
-    match &slots[i as usize] {
-        Record::Level {
-            front,
-            middle,
-            back,
-            ..
-        } => Ok(Spine {
-            front: *front,
-            middle: *middle,
-            back: *back,
-        }),
-        _ => Err(Unsound),
+
+    pub fn give(&mut self, i: u16) -> Result<(), Unsound>
+        ensures same { self.new.slots.ghost_name ≡ self.old.slots.ghost_name }
+        ensures given { Given self.old.slots.now self.new.slots.now self.old.free self.new.free i result }
+    {
+        give_slot(self.slots, &mut self.free, i)
+    }
+
+    pub fn put_leaf(&mut self, row: R, value: M::Value) -> Result<u16, Unsound>
+        ensures same { self.new.slots.ghost_name ≡ self.old.slots.ghost_name }
+        ensures put { LeafPut self.old.slots.now self.new.slots.now self.old.free self.new.free row value result }
+    {
+        put_leaf(self.slots, &mut self.free, row, value)
     }
 }

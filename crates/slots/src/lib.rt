@@ -3,6 +3,7 @@
 
 pub mod arena;
 pub mod digits;
+pub mod reading;
 pub mod records;
 pub mod theorems;
 pub mod values;

@@ -1,3 +1,14 @@
+// What slots hold, and the parts that a tree is put together of.
+ghost use Rattle.std.specs.Prelude.{◌≡◌};
+
+use plain::faults::TextFault;
+
+// The next slot of a chain of free ones, if there is one.
+pub type Link = Option<u16>;
+
+// More levels than any tree of sound memory has, also after five pushes.
+pub const LEVELS: u8 = 16;
+
 // One to four slots.
 #[derive(Clone, Copy)]
 pub enum Digit {
@@ -13,13 +24,6 @@ pub enum Tree {
     Empty,
     Single(u16),
     Deep(u16),
-}
-
-// The next slot of a chain of free ones.
-#[derive(Clone, Copy)]
-pub enum Link {
-    End,
-    To(u16),
 }
 
 // What a slot holds: V is the value of a measure of all that lies below.
@@ -53,6 +57,16 @@ pub enum Record<R, V> {
 #[derive(Clone, Copy)]
 pub struct Unsound;
 
+impl From<Unsound> for TextFault {
+    ghost use Rattle.plain.specs.declared.faults.TextFault.TheVariants as fault;
+
+    ghost from_gives = { λ _ told. told ≡ fault.Unsound };
+
+    fn from(_: Unsound) -> TextFault {
+        TextFault::Unsound
+    }
+}
+
 #[derive(Clone, Copy)]
 pub enum Side {
     Front,
@@ -67,7 +81,7 @@ pub struct Spine {
     pub back: Digit,
 }
 
-// A digit with one more slot: it has room, or three slots leave it as the parts of a node.
+// A digit with one more slot: it has room, or three slots leave it as the parts of a node. Neither is a failure.
 #[derive(Clone, Copy)]
 pub enum Grown {
     Room(Digit),

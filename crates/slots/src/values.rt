@@ -1,37 +1,31 @@
 // The values of what lies in slots, joined from front to back.
-ghost use Rattle.std.specs.Prelude.{◌≡◌, Ok, slice_index_or};
+ghost use Rattle.std.specs.Prelude.{◌≡◌, Ok, Err, MatchResult, slice_index_or};
 ghost use Rattle.slots.specs.Ghost.{none};
 ghost use Rattle.slots.specs.Values.{value_in, JoinedOk};
 ghost use Rattle.slots.specs.Post.{DigitValued, PartValued, TreeValued, LevelValued};
 
-use crate::records::{Digit, Record, Tree, Unsound};
+use crate::records::{Digit, Record, Side, Tree, Unsound};
 use measures::Measure;
+
+// The value in a slot, where it lies.
+pub fn value_ref<R: Copy, V: Copy>(slots: &[Record<R, V>], i: u16) -> Result<&V, Unsound>
+    ensures { MatchResult result (λ v. value_in (slice_index_or slots.now i none) ≡ Ok v.now) (λ e. value_in (slice_index_or slots.now i none) ≡ Err e) }
+{
+    match slots.get(i as usize) {
+        Some(
+            Record::Leaf { value, .. }
+            | Record::Node2 { value, .. }
+            | Record::Node3 { value, .. }
+            | Record::Level { value, .. },
+        ) => Ok(value),
+        _ => Err(Unsound),
+    }
+}
 
 pub fn value_at<R: Copy, V: Copy>(slots: &[Record<R, V>], i: u16) -> Result<V, Unsound>
     ensures { result ≡ value_in (slice_index_or slots.now i none) }
 {
-    if i as usize >= slots.len() {
-        return Err(Unsound);
-    }
-    match &slots[i as usize] {
-        Record::Free(_) => Err(Unsound),
-        Record::Leaf { value, .. } => Ok(*value),
-        Record::Node2 { value, .. } => Ok(*value),
-        Record::Node3 { value, .. } => Ok(*value),
-        Record::Level { value, .. } => Ok(*value),
-    }
-}
-
-pub fn join_values<M: Measure>(
-    a: Result<M::Value, Unsound>,
-    b: Result<M::Value, Unsound>,
-) -> Result<M::Value, Unsound>
-    ensures { JoinedOk M.Item.Weigh.weight M.Measure.means a b result }
-{
-    match (a, b) {
-        (Ok(x), Ok(y)) => Ok(M::join(&x, &y)),
-        _ => Err(Unsound),
-    }
+    Ok(*value_ref(slots, i)?)
 }
 
 // Joins the value in a slot on, without a copy of it.
@@ -42,29 +36,7 @@ pub fn join_on<R: Copy, M: Measure>(
 ) -> Result<M::Value, Unsound>
     ensures { JoinedOk M.Item.Weigh.weight M.Measure.means (Ok before.now) (value_in (slice_index_or slots.now i none)) result }
 {
-    if i as usize >= slots.len() {
-        return Err(Unsound);
-    }
-    match &slots[i as usize] {
-        Record::Free(_) => Err(Unsound),
-        Record::Leaf { value, .. } => Ok(M::join(before, value)),
-        Record::Node2 { value, .. } => Ok(M::join(before, value)),
-        Record::Node3 { value, .. } => Ok(M::join(before, value)),
-        Record::Level { value, .. } => Ok(M::join(before, value)),
-    }
-}
-
-pub fn join_at<R: Copy, M: Measure>(
-    slots: &[Record<R, M::Value>],
-    before: Result<M::Value, Unsound>,
-    i: u16,
-) -> Result<M::Value, Unsound>
-    ensures { JoinedOk M.Item.Weigh.weight M.Measure.means before (value_in (slice_index_or slots.now i none)) result }
-{
-    match before {
-        Ok(v) => join_on::<R, M>(slots, &v, i),
-        Err(e) => Err(e),
-    }
+    Ok(M::join(before, value_ref(slots, i)?))
 }
 
 pub fn digit_value<R: Copy, M: Measure>(
@@ -73,18 +45,10 @@ pub fn digit_value<R: Copy, M: Measure>(
 ) -> Result<M::Value, Unsound>
     ensures { DigitValued M.Item.Weigh.weight M.Measure.means slots.now digit result }
 {
-    match digit {
-        Digit::One(a) => value_at(slots, a),
-        Digit::Two(a, b) => join_at::<R, M>(slots, value_at(slots, a), b),
-        Digit::Three(a, b, c) => {
-            let two = join_at::<R, M>(slots, value_at(slots, a), b);
-            join_at::<R, M>(slots, two, c)
-        }
-        Digit::Four(a, b, c, d) => {
-            let two = join_at::<R, M>(slots, value_at(slots, a), b);
-            let three = join_at::<R, M>(slots, two, c);
-            join_at::<R, M>(slots, three, d)
-        }
+    let last = digit.peel(Side::Back);
+    match last.rest {
+        None => value_at(slots, last.slot),
+        Some(rest) => join_on::<R, M>(slots, &digit_value::<R, M>(slots, rest)?, last.slot),
     }
 }
 
@@ -108,8 +72,7 @@ pub fn tree_value<R: Copy, M: Measure>(
 {
     match tree {
         Tree::Empty => Ok(M::empty()),
-        Tree::Single(i) => value_at(slots, i),
-        Tree::Deep(i) => value_at(slots, i),
+        Tree::Single(i) | Tree::Deep(i) => value_at(slots, i),
     }
 }
 
@@ -121,7 +84,7 @@ pub fn level_value<R: Copy, M: Measure>(
 ) -> Result<M::Value, Unsound>
     ensures { LevelValued M.Item.Weigh.weight M.Measure.means slots.now front middle back result }
 {
-    let v = digit_value::<R, M>(slots, front);
-    let w = join_values::<M>(v, tree_value::<R, M>(slots, middle));
-    join_values::<M>(w, digit_value::<R, M>(slots, back))
+    let first = digit_value::<R, M>(slots, front)?;
+    let some = M::join(&first, &tree_value::<R, M>(slots, middle)?);
+    Ok(M::join(&some, &digit_value::<R, M>(slots, back)?))
 }

@@ -12,7 +12,7 @@ use Rattle.slots.specs.Ghost.{Twig, leaf, two, three, Arm, Finger, nil, one, dee
 use Rattle.slots.specs.Values.{flat, mean, wt, spine_in}
 use Rattle.slots.proofs.Depth.{few_levels}
 use Rattle.slots.proofs.Frames.{calm_then, off_refl, off_then, off_more, frame_twig, frame_arm, frame, frame_chain}
-use Rattle.slots.proofs.Reading.{twig_value}
+use Rattle.slots.proofs.Joined.{twig_value}
 use Rattle.slots.proofs.Shapes.{ok_err, ok_same, tree_empty, tree_single, at_level}
 use Rattle.slots.proofs.Weights.{wt_append}
 use Rattle.tree.specs.Post.{Has}

@@ -3,7 +3,8 @@ use Rattle.std.proofs.Common.{sym, refl, ap, ◌∙◌, subst, ⊎_elim, arith}
 use Rattle.measures.specs.Law.{weights, heaviest}
 use Rattle.std.specs.Prelude.{◌≡◌, Bool, true, List, [], ◌∷◌, ℕ, suc, ◌+◌, ◌-◌, ◌≤◌, ◌<◌, length}
 use Rattle.std.specs.declared.option.Option.{Option}
-use Rattle.std.specs.declared.option.Option.TheVariants.{None, Some}
+use Rattle.std.specs.declared.option.Option.TheVariants.{Some}
+use Rattle.std.specs.Result.{result_ok}
 use Rattle.std.specs.declared.result.Result.{Result}
 use Rattle.std.specs.declared.result.Result.TheVariants.{Ok, Err}
 use Rattle.split.specs.Words.{Unsound, Link, Digit, Tree, Record, Side, Front, Back, Spine, Cut}
@@ -141,14 +142,15 @@ module _ {R I V : Type 0} {weigh : I → ℕ} {means : List I → V} where
             absurd (ok_err (draw items L a F fs k long (D₁.deepens items L a F fs k el ea ef fl h la)).ok bad);
       }
 
-      module _ {rs₃ : List (Record R V)} {f₃ : Link} {j₀ : ℕ} {g₂ : Result Tree Unsound} (got : p ≡ Ok j₀) (D₂ : Deepened weigh means rs₁ rs₃ f₂ f₃ fuel Front j₀ c.right s.right level.back g₂) where
+      -- nothing but the free link changed when the slot was taken
+      module _ {rs₂ rs₃ : List (Record R V)} {f₃ : Link} {j₀ : ℕ} {g₂ : Result Tree Unsound} (kept : rs₂ ≡ rs₁) (got : p ≡ Ok j₀) (D₂ : Deepened weigh means rs₂ rs₃ f₂ f₃ fuel Front j₀ c.right s.right level.back g₂) where
         second : (items : R → List I) (Q : Option (Arm R V)) (b : Finger R V) (B : Arm R V) (T : List R) (τ : ℕ → ℕ) (top len k : ℕ) → (G : Shrunk weigh means items rs rs₁ f₁ g T τ top len k) → (E : Drawn rs₁ f₂ p G.made.fs')
             → part_of Q ≡ c.right → tree_of b ≡ s.right → digit_of B ≡ level.back → FitPart (mean means items) rs Q k → Fit (mean means items) rs b (suc k) → FitArm (mean means items) rs B k → levels b ≤ fuel
             → wt weigh items (rows_part Q) + (wt weigh items (rows b) + wt weigh items (rows_arm B)) ≤ heaviest → ((j : ℕ) → (occ_part Q j + (occ b j + occ_arm B j)) + τ j ≤ 1)
             → Whole weigh means items rs₁ rs₃ f₃ Front E.n g₂ (rows_part Q) (occ_part Q) b B E.ns k
         second items Q b B T τ top len k G E eq eb ebd fq fb fB lb light once =
             let mn : List R → V = mean means items in
-            let D₃ = subst (λ q. Deepened weigh means rs₁ rs₃ f₂ f₃ fuel Front q c.right s.right level.back g₂) (ok_same got E.ok) D₂ in
+            let D₃ = subst (λ q. Deepened weigh means rs₁ rs₃ f₂ f₃ fuel Front q c.right s.right level.back g₂) (ok_same got E.ok) (subst (λ q. Deepened weigh means q rs₃ f₂ f₃ fuel Front j₀ c.right s.right level.back g₂) kept D₂) in
             D₃.deepens items Q b B E.ns k eq eb ebd (frame_part G.made.frame mn Q k (λ j. omega (arith, once j)) fq) (record {
               first = E.first;
               within = E.within;
@@ -226,11 +228,17 @@ module _ {R I V : Type 0} {weigh : I → ℕ} {means : List I → V} {says : V �
         })
         (pk.picks items v U.arm k (ok_same U.ok got) fit₁ (subst (λ l. weights weigh (upto items v l) ≤ heaviest) (sym U.text) light) at)
 
-    pub reopen_some : {o : Option Cut} {cut : Cut} → q ≡ Ok o → o ≡ Some cut → Reopened weigh means says rs rs' f f' n p p' (Ok cut)
-    reopen_some {cut = cut} ok some = record { opens = λ items v w k e fit once light at y. reopened items v w k e fit once light at y (λ c is. let z : cut ≡ c = cc in ap Ok z) }
-
-    pub reopen_none : {o : Option Cut} {e : Unsound} → q ≡ Ok o → o ≡ None → Reopened weigh means says rs rs' f f' n p p' (Err e)
-    reopen_none ok nay = record { opens = λ items v w k e fit once light at y. reopened items v w k e fit once light at y (λ c is. absurd (let z : ◌≡◌ {A = ℕ} 0 1 = cc in omega arith)) }
+    pub reopen_found : {o : Option Cut} {r : Result Cut Unsound} → q ≡ Ok o → o ≡ result_ok r → Reopened weigh means says rs rs' f f' n p p' r
+    reopen_found {r = Ok cut} ok is = record { opens = λ items v w k e fit once light at y. reopened items v w k e fit once light at y (λ c found. let z : cut ≡ c = cc in ap Ok z) }
+    reopen_found {r = Err e} ok is = record { opens = λ items v w k e fit once light at y. reopened items v w k e fit once light at y (λ c found. absurd (let z : ◌≡◌ {A = ℕ} 0 1 = cc in omega arith)) }
 
     pub reopen_err : {e : Unsound} {r : Result Cut Unsound} → q ≡ Err e → Reopened weigh means says rs rs' f f' n p p' r
     reopen_err bad = record { opens = λ items v w k e fit once light at y. reopened items v w k e fit once light at y (λ c is. absurd (ok_err is bad)) }
+
+-- the slots as the arena left them
+module _ {R I V : Type 0} {weigh : I → ℕ} {means : List I → V} {rs rs₁ rs' : List (Record R V)} {f f' : Link} {r : Result (Option Halves) Unsound} (is : rs₁ ≡ rs') where
+  pub edged_at : {fuel i : ℕ} {s : Side} {level : Spine} {c : Cut} → Edged weigh means rs rs₁ f f' fuel s i level c r → Edged weigh means rs rs' f f' fuel s i level c r
+  edged_at {fuel} {i} {s} {level} {c} made = subst (λ q. Edged weigh means rs q f f' fuel s i level c r) is made
+
+  pub rejoined_at : {fuel i : ℕ} {level : Spine} {m : Halves} {c : Cut} → Rejoined weigh means rs rs₁ f f' fuel i level m c r → Rejoined weigh means rs rs' f f' fuel i level m c r
+  rejoined_at {fuel} {i} {level} {m} {c} made = subst (λ q. Rejoined weigh means rs q f f' fuel i level m c r) is made

@@ -4,7 +4,7 @@ use Rattle.std.specs.declared.option.Option.{Option}
 use Rattle.std.specs.declared.option.Option.TheVariants.{None, Some}
 use Rattle.std.specs.declared.result.Result.{Result}
 use Rattle.std.specs.declared.result.Result.TheVariants.{Ok}
-use Rattle.split.specs.Words.{Unsound, Link, To, Tree, Record, Free, Leaf, Side, Spine, Cut}
+use Rattle.split.specs.Words.{Unsound, Link, Tree, Record, Free, Leaf, Side, Spine, Cut}
 use Rattle.slots.specs.Ghost.{Twig, Arm, Finger, same, occ_list, head_of, none, root, digit_of, part_of, tree_of, rows_twig, rows_arm, rows_part, rows, levels, occ_twig, occ_arm, occ_part, occ, At, FitTwig, FitArm, FitPart, Fit, Chain, Calm, Off}
 use Rattle.slots.specs.Holds.{Holds}
 use Rattle.slots.specs.Sides.{pick, ends}
@@ -70,7 +70,7 @@ module _ {R I V : Type 0} (weigh : I → ℕ) (means : List I → V) where
       pub fit_l : FitPart (mean means items) rs' L k
       pub fit_u : FitTwig (mean means items) rs' u k
       pub fit_r : FitPart (mean means items) rs' Q k
-      pub first : To (root w) ≡ f'
+      pub first : Some (root w) ≡ f'
       pub at : At rs' (root w) (Free f)
       pub off : Off rs rs' (same (root w))
       pub calm : (j : ℕ) → Calm (get_or rs j none) (get_or rs' j none)

@@ -1,7 +1,5 @@
 -- The words of slots and lists, under one roof.
 pub use Rattle.slots.specs.declared.records.Unsound.{Unsound}
-pub use Rattle.slots.specs.declared.records.Link.{Link}
-pub use Rattle.slots.specs.declared.records.Link.TheVariants.{To}
 pub use Rattle.slots.specs.declared.records.Digit.{Digit}
 pub use Rattle.slots.specs.declared.records.Tree.{Tree}
 pub use Rattle.slots.specs.declared.records.Tree.TheVariants.{Empty, Single, Deep}
@@ -11,3 +9,4 @@ pub use Rattle.slots.specs.declared.records.Side.{Side}
 pub use Rattle.slots.specs.declared.records.Side.TheVariants.{Front, Back}
 pub use Rattle.slots.specs.declared.records.Spine.{Spine}
 pub use Rattle.seek.specs.declared.digits.Cut.{Cut}
+pub use Rattle.slots.specs.Words.{Link}

@@ -5,9 +5,8 @@ ghost use Rattle.split.specs.Post.{Reopened, Splits, SplitAt};
 use crate::halves::{Halves, edge, rejoin};
 use measures::{Measure, Probe};
 use seek::digits::{Cut, pick, reaches, reaches_tree};
-use seek::search::LEVELS;
-use slots::arena::spine_at;
-use slots::records::{Link, Record, Side, Tree, Unsound};
+use slots::reading::spine_at;
+use slots::records::{LEVELS, Link, Record, Side, Tree, Unsound};
 use tree::build::take_node;
 
 // Gives up the node at n, where the probe turns yes, and cuts its parts.
@@ -21,10 +20,7 @@ pub fn reopen<R: Copy, M: Measure, P: Probe<M>>(
     ensures { Reopened M.Item.Weigh.weight M.Measure.means (P.Probe.says probe.now) slots.old slots.new free.old free.new n place.old place.new result }
 {
     let parts = take_node(slots, free, n)?;
-    match pick::<R, M, P>(slots, parts, probe, place)? {
-        Some(cut) => Ok(cut),
-        None => Err(Unsound),
-    }
+    pick::<R, M, P>(slots, parts, probe, place)?.ok_or(Unsound)
 }
 
 // Fuel bounds the levels.
@@ -60,13 +56,16 @@ pub fn split_down<R: Copy, M: Measure, P: Probe<M>>(
             if fuel == 0 {
                 return Err(Unsound);
             }
-            match split_down::<R, M, P>(slots, free, fuel - 1, level.middle, probe, place)? {
-                Some(middle) => {
-                    let inner = reopen::<R, M, P>(slots, free, middle.at, probe, place)?;
-                    rejoin::<R, M>(slots, free, fuel, i, level, middle, inner)
-                }
-                None => Err(Unsound),
-            }
+            let middle = split_down::<R, M, P>(
+                slots,
+                free,
+                fuel - 1,
+                level.middle,
+                probe,
+                place,
+            )?.ok_or(Unsound)?;
+            let inner = reopen::<R, M, P>(slots, free, middle.at, probe, place)?;
+            rejoin::<R, M>(slots, free, fuel, i, level, middle, inner)
         }
     }
 }

@@ -1,13 +1,11 @@
 // Two trees out of what is left of a level.
 ghost use Rattle.std.specs.Prelude.{◌≡◌};
-ghost use Rattle.slots.specs.Sides.{pick as picked};
 ghost use Rattle.split.specs.Post.{halves, Edged, Rejoined};
 
 use measures::Measure;
 use seek::digits::Cut;
-use slots::arena::take_slot;
-use slots::digits::{flip, pick};
-use slots::records::{Digit, Link, Record, Side, Spine, Tree, Unsound};
+use slots::arena::Arena;
+use slots::records::{Link, Record, Side, Spine, Tree, Unsound};
 use tree::build::plant;
 use tree::ends::deep;
 
@@ -24,28 +22,11 @@ impl Halves {
     pub fn new(side: Side, outer: Tree, at: u16, inner: Tree) -> Self
         ensures { result ≡ halves side outer at inner }
     {
-        match side {
-            Side::Front => Halves {
-                left: outer,
-                at,
-                right: inner,
-            },
-            Side::Back => Halves {
-                left: inner,
-                at,
-                right: outer,
-            },
+        Halves {
+            left: side.pick(outer, inner),
+            at,
+            right: side.pick(inner, outer),
         }
-    }
-}
-
-// The part of a cut digit at that side.
-fn part(side: Side, cut: Cut) -> Option<Digit>
-    ensures { result ≡ picked side cut.left cut.right }
-{
-    match side {
-        Side::Front => cut.left,
-        Side::Back => cut.right,
     }
 }
 
@@ -62,10 +43,12 @@ pub fn edge<R: Copy, M: Measure>(
 ) -> Result<Option<Halves>, Unsound>
     ensures { Edged M.Item.Weigh.weight M.Measure.means slots.old slots.new free.old free.new fuel side i level cut result }
 {
-    let far = pick(side, level.back, level.front);
-    let near = part(flip(side), cut);
-    let inner = deep::<R, M>(slots, free, fuel, side, i, near, level.middle, far)?;
-    let outer = plant::<R, M>(slots, free, part(side, cut))?;
+    let far = side.pick(level.back, level.front);
+    let near = side.flip().pick(cut.left, cut.right);
+    let mut arena: Arena<R, M> = Arena { slots, free: *free };
+    let inner = deep(&mut arena, fuel, side, i, near, level.middle, far)?;
+    let outer = plant(&mut arena, side.pick(cut.left, cut.right))?;
+    *free = arena.free;
     Ok(Some(Halves::new(side, outer, cut.at, inner)))
 }
 
@@ -81,9 +64,9 @@ pub fn rejoin<R: Copy, M: Measure>(
 ) -> Result<Option<Halves>, Unsound>
     ensures { Rejoined M.Item.Weigh.weight M.Measure.means slots.old slots.new free.old free.new fuel i level middle cut result }
 {
-    let left = deep::<R, M>(
-        slots,
-        free,
+    let mut arena: Arena<R, M> = Arena { slots, free: *free };
+    let left = deep(
+        &mut arena,
         fuel,
         Side::Back,
         i,
@@ -91,10 +74,9 @@ pub fn rejoin<R: Copy, M: Measure>(
         middle.left,
         level.front,
     )?;
-    let j = take_slot(slots, free)?;
-    let right = deep::<R, M>(
-        slots,
-        free,
+    let j = arena.take()?;
+    let right = deep(
+        &mut arena,
         fuel,
         Side::Front,
         j,
@@ -102,6 +84,7 @@ pub fn rejoin<R: Copy, M: Measure>(
         middle.right,
         level.back,
     )?;
+    *free = arena.free;
     Ok(Some(Halves {
         left,
         at: cut.at,

@@ -1,19 +1,19 @@
 -- What joining two stores gives.
-use Rattle.std.specs.Prelude.{◌≡◌, ℕ, ◌+◌, ◌<◌, ◌≤◌, List, ◌++◌, length}
+use Rattle.std.specs.Prelude.{◌≡◌, ◌+◌, ◌<◌, ◌≤◌, ◌++◌, length}
 use Rattle.stores.specs.Stores.{largest, summed}
-use Rattle.stores.specs.Kinds.{joined_bytes, joined_capacity, joined_reads}
+use Rattle.stores.specs.Kinds.{joined_contents}
+use Rattle.stores.specs.declared.Store.{Ghosts}
 use Rattle.stores.specs.declared.joined.Joined.{Joined}
-use Rattle.stores.specs.declared.joined.Unjoined.{Unjoined}
+use Rattle.stores.specs.declared.joined.joining.Unjoined.{Unjoined}
 
-module _ {F B : Type 0} (bytes : F → List ℕ) (reads : F → ℕ) (more : B → List ℕ) (capacity counts : B → ℕ) where
-  pub record Accepted (front : F) (back : B) (j : Joined F B) : Type 0 where
-    pub fits : length (bytes front) + capacity back ≤ largest
-    pub bytes_are : joined_bytes bytes more j ≡ bytes front ++ more back
-    pub capacity_is : joined_capacity bytes capacity j ≡ length (bytes front) + capacity back
-    pub reads_are : joined_reads reads counts j ≡ summed (reads front) (counts back)
+module _ {F B : Type 0} (f : Ghosts F) (b : Ghosts B) (front : F) (back : B) where
+  pub record Accepted (j : Joined F B f b) : Type 0 where
+    pub fits : length (f.contents front).bytes + (b.contents back).capacity ≤ largest
+    pub bytes_are : (joined_contents j).bytes ≡ (f.contents front).bytes ++ (b.contents back).bytes
+    pub capacity_is : (joined_contents j).capacity ≡ length (f.contents front).bytes + (b.contents back).capacity
+    pub reads_are : (joined_contents j).reads ≡ summed (f.contents front).reads (b.contents back).reads
 
-module _ {F B : Type 0} (bytes : F → List ℕ) (capacity : B → ℕ) where
-  pub record HandedBack (front : F) (back : B) (u : Unjoined F B) : Type 0 where
-    pub too_large : largest < length (bytes front) + capacity back
+  pub record HandedBack (u : Unjoined F B) : Type 0 where
+    pub too_large : largest < length (f.contents front).bytes + (b.contents back).capacity
     pub front_returned : u.front ≡ front
     pub back_returned : u.back ≡ back

@@ -2,36 +2,33 @@
 use Rattle.std.specs.Prelude.{ℕ, List}
 use Rattle.std.proofs.Common.{arith, length-take, length-append}
 use Rattle.std.proofs.lemmas.List.{length-replicate}
-use Rattle.stores.specs.Stores.{largest, Lawful}
-use Rattle.stores.specs.Kinds.{counting, filled_part, original_bytes, original_capacity, original_reads, buffer_bytes, buffer_capacity, buffer_reads, filled_bytes, filled_capacity, filled_reads, joined_bytes, joined_capacity, joined_reads}
+use Rattle.stores.specs.Stores.{Sized, Lawful}
+use Rattle.stores.specs.Kinds.{counted_contents, counting, text_bytes, text_capacity, space_bytes, space_capacity, repeated_bytes, repeated_capacity, joined_contents}
+use Rattle.stores.specs.declared.Store.{Ghosts}
+use Rattle.stores.specs.declared.original.Text.{Text}
+use Rattle.stores.specs.declared.buffer.Space.{Space}
+use Rattle.stores.specs.declared.filled.Repeated.{Repeated}
 
-pub original_lawful : Lawful original_bytes original_capacity original_reads
+pub counted_lawful : {B : Type 0} (bytes : B → List ℕ) (capacity : B → ℕ) → ((b : B) → Sized (bytes b) (capacity b)) → Lawful (counted_contents bytes capacity)
+counted_lawful bytes capacity sized = record {
+  within = λ s. (sized s.held).within;
+  small = λ s. (sized s.held).small;
+  stops = λ s. omega arith;
+}
+
+pub text_sized : (b : Text) → Sized (text_bytes b) (text_capacity b)
 unfolding counting
-original_lawful = record {
-  within = λ s. omega arith;
-  small = λ s. let e = length-take largest s.text.now in omega arith;
-  stops = λ s. omega arith;
-}
+text_sized b = record { within = omega arith; small = simp length-take (omega arith) }
 
-pub buffer_lawful : Lawful buffer_bytes buffer_capacity buffer_reads
-unfolding filled_part
-buffer_lawful = record {
-  within = λ s. simp length-take (omega arith);
-  small = λ s. omega arith;
-  stops = λ s. omega arith;
-}
+pub space_sized : (b : Space) → Sized (space_bytes b) (space_capacity b)
+space_sized b = record { within = simp length-take (omega arith); small = omega arith }
 
-pub filled_lawful : Lawful filled_bytes filled_capacity filled_reads
-filled_lawful = record {
-  within = λ s. omega arith;
-  small = λ s. simp length-replicate (omega arith);
-  stops = λ s. omega arith;
-}
+pub repeated_sized : (b : Repeated) → Sized (repeated_bytes b) (repeated_capacity b)
+repeated_sized b = record { within = omega arith; small = simp length-replicate (omega arith) }
 
-pub joined_lawful : {F B : Type 0} (front : F → List ℕ) (reads : F → ℕ) (back : B → List ℕ) (capacity counts : B → ℕ) → Lawful back capacity counts → Lawful (joined_bytes front back) (joined_capacity front capacity) (joined_reads reads counts)
-unfolding counting
-joined_lawful front reads back capacity counts law = record {
-  within = λ s. let h = law.within s.back in simp (length-take, length-append) (omega arith);
-  small = λ s. omega arith;
+pub joined_lawful : {F B : Type 0} (f : Ghosts F) (b : Ghosts B) → Lawful b.contents → Lawful (joined_contents {f = f} {b = b})
+joined_lawful f b law = record {
+  within = λ s. let h = law.within s.back in simp length-append (omega arith);
+  small = λ s. s.fits;
   stops = λ s. omega arith;
 }

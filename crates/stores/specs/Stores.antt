@@ -32,30 +32,41 @@ abbrev pub Outcome : List ℕ → ℕ → List ℕ → Result ℕ StoreFull → 
 Outcome bytes capacity more (Ok at) bytes' = Taken bytes capacity more at bytes'
 Outcome bytes capacity more (Err fault) bytes' = Refused bytes capacity more fault bytes'
 
-module _ {S : Type 0} (bytes : S → List ℕ) (capacity reads : S → ℕ) where
+-- bytes that fit a capacity, which is no larger than a store can have
+pub record Sized (bytes : List ℕ) (capacity : ℕ) : Type 0 where
+  pub within : length bytes ≤ capacity
+  pub small : capacity ≤ largest
+
+-- what a store means
+pub record Contents : Type 0 where
+  pub bytes : List ℕ
+  pub capacity : ℕ
+  pub reads : ℕ
+
+module _ {S : Type 0} (contents : S → Contents) where
   -- what holds of every store of a kind
   pub record Lawful : Type 0 where
-    pub within : (s : S) → length (bytes s) ≤ capacity s
-    pub small : (s : S) → capacity s ≤ largest
-    pub stops : (s : S) → reads s < 2 ^ 64
+    pub within : (s : S) → length (contents s).bytes ≤ (contents s).capacity
+    pub small : (s : S) → (contents s).capacity ≤ largest
+    pub stops : (s : S) → (contents s).reads < 2 ^ 64
 
   -- from s to s' by a read
   pub record ReadsAt (s : S) (at : ℕ) (r : Option ℕ) (s' : S) : Type 0 where
-    pub gives : ByteAt (bytes s) at r
-    pub same_bytes : bytes s' ≡ bytes s
-    pub same_capacity : capacity s' ≡ capacity s
-    pub counts : reads s' ≡ summed (reads s) 1
+    pub gives : ByteAt (contents s).bytes at r
+    pub same_bytes : (contents s').bytes ≡ (contents s).bytes
+    pub same_capacity : (contents s').capacity ≡ (contents s).capacity
+    pub counts : (contents s').reads ≡ summed (contents s).reads 1
 
   -- from s to s' by an append
   pub record Appends (s : S) (more : List ℕ) (r : Result ℕ StoreFull) (s' : S) : Type 0 where
-    pub outcome : Outcome (bytes s) (capacity s) more r (bytes s')
-    pub same_capacity : capacity s' ≡ capacity s
-    pub same_reads : reads s' ≡ reads s
+    pub outcome : Outcome (contents s).bytes (contents s).capacity more r (contents s').bytes
+    pub same_capacity : (contents s').capacity ≡ (contents s).capacity
+    pub same_reads : (contents s').reads ≡ (contents s).reads
 
   -- from s to s' by a copy of r bytes to the front of a buffer
   pub record CopiesOut (s : S) (from : ℕ) (buffer : List ℕ) (r : ℕ) (s' : S) (buffer' : List ℕ) : Type 0 where
-    pub copied : r ≡ min (length buffer) (length (bytes s) - from)
-    pub written : buffer' ≡ take r (drop from (bytes s)) ++ drop r buffer
-    pub same_bytes : bytes s' ≡ bytes s
-    pub same_capacity : capacity s' ≡ capacity s
-    pub counts : reads s' ≡ summed (reads s) r
+    pub copied : r ≡ min (length buffer) (length (contents s).bytes - from)
+    pub written : buffer' ≡ take r (drop from (contents s).bytes) ++ drop r buffer
+    pub same_bytes : (contents s').bytes ≡ (contents s).bytes
+    pub same_capacity : (contents s').capacity ≡ (contents s).capacity
+    pub counts : (contents s').reads ≡ summed (contents s).reads r

@@ -1,74 +1,60 @@
 // A lent buffer that appends fill from its start.
 ghost use Rattle.std.specs.Prelude.{◌≡◌, min, [], length};
 ghost use Rattle.stores.specs.Stores.{largest};
-ghost use Rattle.stores.specs.Kinds.{buffer_bytes, buffer_capacity, buffer_reads};
-ghost use Rattle.stores.specs.Laws.{buffer_lawful};
+ghost use Rattle.stores.specs.Kinds.{space_bytes, space_capacity, buffer_contents};
+ghost use Rattle.stores.specs.Laws.{space_sized};
 
-use crate::Store;
-use crate::lent::counting_len;
+use crate::counted::{Bytes, Counted};
+use crate::lent::counting;
 use plain::faults::StoreFull;
 
+pub type Buffer<'a> = Counted<Space<'a>>;
+
+// No ghost field says that `used` fits: a call that joins a `&mut` to a struct with one gets no proof.
 #[derive(Drop)]
-pub struct Buffer<'a> {
+pub struct Space<'a> {
     space: &'a mut [u8],
     used: u32,
-    reads: u64,
 }
 
 impl<'a> Buffer<'a> {
     pub fn new(space: &'a mut [u8]) -> Buffer<'a>
-        ensures bytes { buffer_bytes result ≡ [] }
-        ensures capacity { buffer_capacity result ≡ min (length space.old) largest }
-        ensures reads { buffer_reads result ≡ 0 }
+        ensures bytes { (buffer_contents result).bytes ≡ [] }
+        ensures capacity { (buffer_contents result).capacity ≡ min (length space.old) largest }
+        ensures reads { (buffer_contents result).reads ≡ 0 }
     {
-        Buffer {
-            space,
-            used: 0,
-            reads: 0,
-        }
+        Counted::of(Space { space, used: 0 })
     }
 }
 
-impl<'a> Store for Buffer<'a> {
-    ghost bytes = { buffer_bytes };
+impl<'a> Bytes for Space<'a> {
+    ghost bytes = { space_bytes };
 
-    ghost capacity = { buffer_capacity };
+    ghost capacity = { space_capacity };
 
-    ghost reads = { buffer_reads };
-
-    ghost lawful = { buffer_lawful };
+    ghost sized = { space_sized };
 
     fn len(&self) -> u32 {
-        (self.used as usize).min(self.space.len()) as u32
+        counting(self.space).len().min(self.used as usize) as u32
     }
 
     fn spare(&self) -> u32 {
-        counting_len(self.space) - self.len()
+        counting(self.space).len() as u32 - self.len()
     }
 
-    fn count(&self) -> u64 {
-        self.reads
-    }
-
-    fn read(&mut self, at: u32) -> Option<u8> {
-        self.reads = self.reads.saturating_add(1);
-        if at < self.len() {
-            Some(self.space[at as usize])
-        } else {
-            None
-        }
+    fn get(&self, at: u32) -> Option<u8> {
+        self.space[..self.len() as usize].get(at as usize).copied()
     }
 
     fn append(&mut self, more: &[u8]) -> Result<u32, StoreFull> {
         let length = self.len();
         let spare = self.spare();
-        if more.len() <= spare as usize {
-            let end = length as usize + more.len();
-            self.space[length as usize..end].copy_from_slice(more);
-            self.used = end as u32;
-            Ok(length)
-        } else {
-            Err(StoreFull { length, spare })
+        if more.len() > spare as usize {
+            return Err(StoreFull { length, spare });
         }
+        let end = length as usize + more.len();
+        self.space[length as usize..end].copy_from_slice(more);
+        self.used = end as u32;
+        Ok(length)
     }
 }

@@ -1,41 +1,36 @@
 // One byte value repeated, without memory.
 ghost use Rattle.std.specs.Prelude.{◌≡◌, replicate};
-ghost use Rattle.stores.specs.Kinds.{filled_bytes, filled_capacity, filled_reads};
-ghost use Rattle.stores.specs.Laws.{filled_lawful};
+ghost use Rattle.stores.specs.Kinds.{repeated_bytes, repeated_capacity, filled_contents};
+ghost use Rattle.stores.specs.Laws.{repeated_sized};
 
-use crate::Store;
+use crate::counted::{Bytes, Counted};
 use crate::full::append_to_full;
 use plain::faults::StoreFull;
 
+pub type Filled = Counted<Repeated>;
+
 #[derive(Drop)]
-pub struct Filled {
+pub struct Repeated {
     byte: u8,
     length: u32,
-    reads: u64,
 }
 
 impl Filled {
     pub fn new(byte: u8, length: u32) -> Filled
-        ensures bytes { filled_bytes result ≡ replicate length byte }
-        ensures capacity { filled_capacity result ≡ length }
-        ensures reads { filled_reads result ≡ 0 }
+        ensures bytes { (filled_contents result).bytes ≡ replicate length byte }
+        ensures capacity { (filled_contents result).capacity ≡ length }
+        ensures reads { (filled_contents result).reads ≡ 0 }
     {
-        Filled {
-            byte,
-            length,
-            reads: 0,
-        }
+        Counted::of(Repeated { byte, length })
     }
 }
 
-impl Store for Filled {
-    ghost bytes = { filled_bytes };
+impl Bytes for Repeated {
+    ghost bytes = { repeated_bytes };
 
-    ghost capacity = { filled_capacity };
+    ghost capacity = { repeated_capacity };
 
-    ghost reads = { filled_reads };
-
-    ghost lawful = { filled_lawful };
+    ghost sized = { repeated_sized };
 
     fn len(&self) -> u32 {
         self.length
@@ -45,20 +40,11 @@ impl Store for Filled {
         0
     }
 
-    fn count(&self) -> u64 {
-        self.reads
-    }
-
-    fn read(&mut self, at: u32) -> Option<u8> {
-        self.reads = self.reads.saturating_add(1);
-        if at < self.len() {
-            Some(self.byte)
-        } else {
-            None
-        }
+    fn get(&self, at: u32) -> Option<u8> {
+        (at < self.length).then_some(self.byte)
     }
 
     fn append(&mut self, more: &[u8]) -> Result<u32, StoreFull> {
-        append_to_full(self.len(), more)
+        append_to_full(self.length, more)
     }
 }

@@ -4,6 +4,7 @@ ghost use Rattle.stores.specs.Stores.{Outcome};
 
 use plain::faults::StoreFull;
 
+#[tactic(auto, using(crate::proofs::Holdings::append_none))]
 pub fn append_to_full(length: u32, more: &[u8]) -> Result<u32, StoreFull>
     ensures { (bytes : List ℕ) → length ≡ size bytes → Outcome bytes length more.now result bytes }
 {

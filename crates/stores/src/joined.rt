@@ -1,55 +1,34 @@
 // Two stores as one: the front first, and behind it the back, which alone grows.
-ghost use Rattle.std.specs.Result.{MatchResult};
-ghost use Rattle.stores.specs.Kinds.{joined_bytes, joined_capacity, joined_reads};
-ghost use Rattle.stores.specs.Laws.{joined_lawful};
-ghost use Rattle.stores.specs.Joining.{Accepted, HandedBack};
+ghost use Rattle.std.specs.Prelude.{◌+◌, ◌≤◌, length};
+ghost use Rattle.stores.specs.Stores.{largest};
 
 use crate::Store;
-use plain::faults::{JoinTooLarge, StoreFull};
+pub use joining::{Unjoined, join};
+use plain::faults::StoreFull;
+
+mod joining;
 
 #[derive(Drop)]
-pub struct Joined<F, B> {
+pub struct Joined<F: Store, B: Store> {
     front: F,
     back: B,
-}
-
-// A refused joining gives both stores back.
-#[derive(Drop)]
-pub struct Unjoined<F, B> {
-    pub front: F,
-    pub back: B,
-    pub fault: JoinTooLarge,
-}
-
-pub fn join<F: Store, B: Store>(front: F, back: B) -> Result<Joined<F, B>, Unjoined<F, B>>
-    ensures { MatchResult result (Accepted F.Store.bytes F.Store.reads B.Store.bytes B.Store.capacity B.Store.reads front back) (HandedBack F.Store.bytes B.Store.capacity front back) }
-{
-    if back.len() + back.spare() <= u32::MAX - front.len() {
-        Ok(Joined { front, back })
-    } else {
-        Err(Unjoined {
-            front,
-            back,
-            fault: JoinTooLarge,
-        })
-    }
+    ghost fits: { length (F.Store.contents front).bytes + (B.Store.contents back).capacity ≤ largest },
 }
 
 impl<F: Store, B: Store> Store for Joined<F, B> {
-    ghost bytes = { joined_bytes F.Store.bytes B.Store.bytes };
+    ghost use Rattle.stores.specs.Kinds.{joined_contents};
+    ghost use Rattle.stores.specs.Laws.{joined_lawful};
 
-    ghost capacity = { joined_capacity F.Store.bytes B.Store.capacity };
+    ghost contents = { joined_contents };
 
-    ghost reads = { joined_reads F.Store.reads B.Store.reads };
-
-    ghost lawful = { joined_lawful F.Store.bytes F.Store.reads B.Store.bytes B.Store.capacity B.Store.reads B.Store.lawful };
+    ghost lawful = { joined_lawful F.Store B.Store B.Store.lawful };
 
     fn len(&self) -> u32 {
-        self.front.len().saturating_add(self.back.len())
+        self.front.len() + self.back.len()
     }
 
     fn spare(&self) -> u32 {
-        self.back.spare().min(u32::MAX - self.len())
+        self.back.spare()
     }
 
     fn count(&self) -> u64 {
@@ -61,19 +40,18 @@ impl<F: Store, B: Store> Store for Joined<F, B> {
         if at < border {
             self.front.read(at)
         } else {
-            let byte = self.back.read(at - border);
-            // A store has at most u32::MAX bytes, so nothing stands at that address.
-            if at == u32::MAX { None } else { byte }
+            self.back.read(at - border)
         }
     }
 
     fn append(&mut self, more: &[u8]) -> Result<u32, StoreFull> {
-        let length = self.len();
-        let spare = self.spare();
-        if more.len() > spare as usize {
-            return Err(StoreFull { length, spare });
+        let border = self.front.len();
+        match self.back.append(more) {
+            Ok(at) => Ok(border + at),
+            Err(full) => Err(StoreFull {
+                length: border + full.length,
+                spare: full.spare,
+            }),
         }
-        self.back.append(more)?;
-        Ok(length)
     }
 }

@@ -1,13 +1,14 @@
 // Bytes behind a trait: every store means a list of bytes, a capacity and a count of the reads so far.
 #![tactic(auto)]
 
-ghost use Rattle.std.specs.Prelude.{◌≡◌, ℕ, ◌-◌, List, length};
-ghost use Rattle.stores.specs.Stores.{Lawful, ReadsAt, Appends};
+ghost use Rattle.std.specs.Prelude.{◌≡◌, ◌-◌, length};
+ghost use Rattle.stores.specs.Stores.{Contents, Lawful, ReadsAt, Appends};
 
 use plain::faults::StoreFull;
 
 pub mod buffer;
 pub mod copy_out;
+pub mod counted;
 pub mod filled;
 mod full;
 pub mod joined;
@@ -15,30 +16,26 @@ mod lent;
 pub mod original;
 
 pub trait Store {
-    ghost bytes: { Self → List ℕ };
+    ghost contents: { Self → Contents };
 
-    ghost capacity: { Self → ℕ };
-
-    ghost reads: { Self → ℕ };
-
-    ghost lawful: { Lawful bytes capacity reads };
+    ghost lawful: { Lawful contents };
 
     fn len(&self) -> u32
-        ensures { result ≡ length (bytes self.now) };
+        ensures { result ≡ length (contents self.now).bytes };
 
     // How many bytes may still be appended.
     fn spare(&self) -> u32
-        ensures { result ≡ capacity self.now - length (bytes self.now) };
+        ensures { result ≡ (contents self.now).capacity - length (contents self.now).bytes };
 
     // The reads so far; it stops at the greatest number.
     fn count(&self) -> u64
-        ensures { result ≡ reads self.now };
+        ensures { result ≡ (contents self.now).reads };
 
     // A read past the end counts too.
     fn read(&mut self, at: u32) -> Option<u8>
-        ensures { ReadsAt bytes capacity reads self.old at result self.new };
+        ensures { ReadsAt contents self.old at result self.new };
 
     // Gives the address of the first byte of `more`.
     fn append(&mut self, more: &[u8]) -> Result<u32, StoreFull>
-        ensures { Appends bytes capacity reads self.old more.now result self.new };
+        ensures { Appends contents self.old more.now result self.new };
 }

@@ -1,57 +1,47 @@
 // A lent text that is only read.
 ghost use Rattle.std.specs.Prelude.{◌≡◌, length};
-ghost use Rattle.stores.specs.Kinds.{counting, original_bytes, original_capacity, original_reads};
-ghost use Rattle.stores.specs.Laws.{original_lawful};
+ghost use Rattle.stores.specs.Kinds.{counting, text_bytes, text_capacity, original_contents};
+ghost use Rattle.stores.specs.Laws.{text_sized};
 
-use crate::Store;
+use crate::counted::{Bytes, Counted};
 use crate::full::append_to_full;
-use crate::lent::counting_len;
+use crate::lent::counting;
 use plain::faults::StoreFull;
 
+pub type Original<'a> = Counted<Text<'a>>;
+
 #[derive(Drop)]
-pub struct Original<'a> {
+pub struct Text<'a> {
     text: &'a [u8],
-    reads: u64,
 }
 
 impl<'a> Original<'a> {
     pub fn new(text: &'a [u8]) -> Original<'a>
-        ensures bytes { original_bytes result ≡ counting text.now }
-        ensures capacity { original_capacity result ≡ length (counting text.now) }
-        ensures reads { original_reads result ≡ 0 }
+        ensures bytes { (original_contents result).bytes ≡ counting text.now }
+        ensures capacity { (original_contents result).capacity ≡ length (counting text.now) }
+        ensures reads { (original_contents result).reads ≡ 0 }
     {
-        Original { text, reads: 0 }
+        Counted::of(Text { text })
     }
 }
 
-impl<'a> Store for Original<'a> {
-    ghost bytes = { original_bytes };
+impl<'a> Bytes for Text<'a> {
+    ghost bytes = { text_bytes };
 
-    ghost capacity = { original_capacity };
+    ghost capacity = { text_capacity };
 
-    ghost reads = { original_reads };
-
-    ghost lawful = { original_lawful };
+    ghost sized = { text_sized };
 
     fn len(&self) -> u32 {
-        counting_len(self.text)
+        counting(self.text).len() as u32
     }
 
     fn spare(&self) -> u32 {
         0
     }
 
-    fn count(&self) -> u64 {
-        self.reads
-    }
-
-    fn read(&mut self, at: u32) -> Option<u8> {
-        self.reads = self.reads.saturating_add(1);
-        if at < self.len() {
-            Some(self.text[at as usize])
-        } else {
-            None
-        }
+    fn get(&self, at: u32) -> Option<u8> {
+        counting(self.text).get(at as usize).copied()
     }
 
     fn append(&mut self, more: &[u8]) -> Result<u32, StoreFull> {

@@ -30,7 +30,7 @@ fn read<S: Store>(rt: &HostRuntime, store: &mut S, places: &[u32]) -> io::Result
 fn append<S: Store>(rt: &HostRuntime, store: &mut S) -> io::Result<()> {
     let letters = b"abcdefghi";
     for count in [0, 9, 2, 6, 1] {
-        match store.append(&letters[0..count]) {
+        match store.append(&letters[..count]) {
             Ok(at) => println!(rt; "  append {count}: at {at}")?,
             Err(full) => {
                 let number = full.number();
@@ -93,7 +93,7 @@ fn kinds(rt: &HostRuntime) -> io::Result<()> {
         rt,
         "original",
         &mut Original::new(b"hello"),
-        &[0, 4, 5, 4294967295],
+        &[0, 4, 5, u32::MAX],
     )?;
     exercise(rt, "empty original", &mut Original::new(b""), &[0])?;
     exercise(rt, "buffer", &mut Buffer::new(&mut space), &[0, 7, 8])?;
@@ -102,8 +102,8 @@ fn kinds(rt: &HostRuntime) -> io::Result<()> {
     exercise(
         rt,
         "filled with the most",
-        &mut Filled::new(b'z', 4294967295),
-        &[0, 4294967294, 4294967295],
+        &mut Filled::new(b'z', u32::MAX),
+        &[0, u32::MAX - 1, u32::MAX],
     )
 }
 
@@ -144,29 +144,29 @@ fn largest(rt: &HostRuntime) -> io::Result<()> {
     exercise_joined(
         rt,
         "as large as can be",
-        Filled::new(b'z', 4294967287),
+        Filled::new(b'z', u32::MAX - 8),
         Buffer::new(&mut space),
-        &[4294967286, 4294967287, 4294967294, 4294967295],
+        &[u32::MAX - 9, u32::MAX - 8, u32::MAX - 1, u32::MAX],
     )?;
     exercise_joined(
         rt,
         "one too many",
-        Filled::new(b'z', 4294967288),
+        Filled::new(b'z', u32::MAX - 7),
         Buffer::new(&mut space),
         &[0],
     )?;
     exercise_joined(
         rt,
         "the most before nothing",
-        Filled::new(b'z', 4294967295),
+        Filled::new(b'z', u32::MAX),
         Filled::new(b'z', 0),
-        &[4294967294, 4294967295],
+        &[u32::MAX - 1, u32::MAX],
     )?;
     exercise_joined(
         rt,
         "one before the most",
         Filled::new(b'z', 1),
-        Filled::new(b'z', 4294967295),
+        Filled::new(b'z', u32::MAX),
         &[0],
     )
 }

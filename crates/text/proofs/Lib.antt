@@ -1,4 +1,3 @@
 mod Lending
 mod Edited
-mod Asked
 mod Opening

@@ -6,6 +6,7 @@ use pieces::head::Head;
 use plain::faults::TextFault;
 
 pub mod view;
+mod watching;
 mod while_held;
 mod while_whole;
 

@@ -12,6 +12,7 @@ ghost use Rattle.pieces.specs.Asked.{Told, ToldBy};
 ghost use Rattle.memory_audit.specs.MemoryAudited.{MemoryAudited};
 ghost use Rattle.text.specs.Texts.{watched_of};
 
+use crate::watching::watched_part;
 use bracket_answers::brackets::bracket_at;
 use measures::Measure;
 use memory_audit::audit_memory;
@@ -22,7 +23,6 @@ use questions::lines::{line_of, start_of};
 use questions::marks::mark_from;
 use questions::range::range;
 use questions::whole::whole;
-use slots::arena::watched;
 use stores::Store;
 use token_answers::tokens::{token_at, token_number};
 
@@ -39,10 +39,9 @@ impl<'a> View<'a> {
         store: &mut S,
         at: u32,
     ) -> Result<Place, TextFault>
-        ensures { (ms : List (Record MarkRow MarkTotals)) → ToldBy A.Measure.means S.Store.bytes S.Store.capacity S.Store.reads (watched_of slots.now) ms self.entry.head.now (LineOf at) (λ m. line_of_offset («text_of» m) at) store.old store.new result }
+        ensures { (ms : List (Record MarkRow MarkTotals)) → ToldBy A.Measure.means S.Store.contents (watched_of slots.now) ms self.entry.head.now (LineOf at) (λ m. line_of_offset («text_of» m) at) store.old store.new result }
     {
-        let lent = watched(slots.len()) as usize;
-        line_of::<S, A>(&slots[0..lent], store, self.head, at)
+        line_of::<S, A>(watched_part(slots), store, self.head, at)
     }
 
     pub fn start_of<S: Store, A: Measure<Item = u8>>(
@@ -51,10 +50,9 @@ impl<'a> View<'a> {
         store: &mut S,
         line: u32,
     ) -> Result<Option<u32>, TextFault>
-        ensures { (ms : List (Record MarkRow MarkTotals)) → ToldBy A.Measure.means S.Store.bytes S.Store.capacity S.Store.reads (watched_of slots.now) ms self.entry.head.now (StartOf line) (λ m. start_of_line («text_of» m) line) store.old store.new result }
+        ensures { (ms : List (Record MarkRow MarkTotals)) → ToldBy A.Measure.means S.Store.contents (watched_of slots.now) ms self.entry.head.now (StartOf line) (λ m. start_of_line («text_of» m) line) store.old store.new result }
     {
-        let lent = watched(slots.len()) as usize;
-        start_of::<S, A>(&slots[0..lent], store, self.head, line)
+        start_of::<S, A>(watched_part(slots), store, self.head, line)
     }
 
     pub fn token_at<S: Store, A: Measure<Item = u8>>(
@@ -63,10 +61,9 @@ impl<'a> View<'a> {
         store: &mut S,
         at: u32,
     ) -> Result<Option<Token>, TextFault>
-        ensures { (ms : List (Record MarkRow MarkTotals)) → ToldBy A.Measure.means S.Store.bytes S.Store.capacity S.Store.reads (watched_of slots.now) ms self.entry.head.now (TokenAt at) (λ m. token_of_offset («text_of» m) at) store.old store.new result }
+        ensures { (ms : List (Record MarkRow MarkTotals)) → ToldBy A.Measure.means S.Store.contents (watched_of slots.now) ms self.entry.head.now (TokenAt at) (λ m. token_of_offset («text_of» m) at) store.old store.new result }
     {
-        let lent = watched(slots.len()) as usize;
-        token_at::<S, A>(&slots[0..lent], store, self.head, at)
+        token_at::<S, A>(watched_part(slots), store, self.head, at)
     }
 
     pub fn token_number<S: Store, A: Measure<Item = u8>>(
@@ -75,10 +72,9 @@ impl<'a> View<'a> {
         store: &mut S,
         number: u32,
     ) -> Result<Option<Token>, TextFault>
-        ensures { (ms : List (Record MarkRow MarkTotals)) → ToldBy A.Measure.means S.Store.bytes S.Store.capacity S.Store.reads (watched_of slots.now) ms self.entry.head.now (TokenNumber number) (λ m. token_of_number («text_of» m) number) store.old store.new result }
+        ensures { (ms : List (Record MarkRow MarkTotals)) → ToldBy A.Measure.means S.Store.contents (watched_of slots.now) ms self.entry.head.now (TokenNumber number) (λ m. token_of_number («text_of» m) number) store.old store.new result }
     {
-        let lent = watched(slots.len()) as usize;
-        token_number::<S, A>(&slots[0..lent], store, self.head, number)
+        token_number::<S, A>(watched_part(slots), store, self.head, number)
     }
 
     pub fn bracket_at<S: Store, A: Measure<Item = u8>>(
@@ -87,10 +83,9 @@ impl<'a> View<'a> {
         store: &mut S,
         at: u32,
     ) -> Result<Option<Bracket>, TextFault>
-        ensures { (ms : List (Record MarkRow MarkTotals)) → ToldBy A.Measure.means S.Store.bytes S.Store.capacity S.Store.reads (watched_of slots.now) ms self.entry.head.now (BracketAt at) (λ m. bracket_of_offset («text_of» m) at) store.old store.new result }
+        ensures { (ms : List (Record MarkRow MarkTotals)) → ToldBy A.Measure.means S.Store.contents (watched_of slots.now) ms self.entry.head.now (BracketAt at) (λ m. bracket_of_offset («text_of» m) at) store.old store.new result }
     {
-        let lent = watched(slots.len()) as usize;
-        bracket_at::<S, A>(&slots[0..lent], store, self.head, at)
+        bracket_at::<S, A>(watched_part(slots), store, self.head, at)
     }
 
     pub fn mark_from<A: Measure<Item = u8>>(
@@ -101,9 +96,7 @@ impl<'a> View<'a> {
     ) -> Result<Option<Mark>, TextFault>
         ensures { (B : List ℕ) → Told A.Measure.means B (watched_of slots.now) (watched_of marks.now) self.entry.head.now (AskMark at) (λ m. mark_of_offset m.marks at) result }
     {
-        let lent = watched(slots.len()) as usize;
-        let lent_marks = watched(marks.len()) as usize;
-        mark_from::<A>(&slots[0..lent], &marks[0..lent_marks], self.head, at)
+        mark_from::<A>(watched_part(slots), watched_part(marks), self.head, at)
     }
 
     pub fn range<S: Store, A: Measure<Item = u8>>(
@@ -113,10 +106,9 @@ impl<'a> View<'a> {
         from: u32,
         to: u32,
     ) -> Result<A::Value, TextFault>
-        ensures { (ms : List (Record MarkRow MarkTotals)) → ToldBy A.Measure.means S.Store.bytes S.Store.capacity S.Store.reads (watched_of slots.now) ms self.entry.head.now (Range from to) (λ m. A.Measure.means (slice («text_of» m) from to)) store.old store.new result }
+        ensures { (ms : List (Record MarkRow MarkTotals)) → ToldBy A.Measure.means S.Store.contents (watched_of slots.now) ms self.entry.head.now (Range from to) (λ m. A.Measure.means (slice («text_of» m) from to)) store.old store.new result }
     {
-        let lent = watched(slots.len()) as usize;
-        range::<S, A>(&slots[0..lent], store, self.head, from, to)
+        range::<S, A>(watched_part(slots), store, self.head, from, to)
     }
 
     pub fn whole<A: Measure<Item = u8>>(
@@ -125,8 +117,7 @@ impl<'a> View<'a> {
     ) -> Result<Summary, TextFault>
         ensures { (B : List ℕ) (ms : List (Record MarkRow MarkTotals)) → Told A.Measure.means B (watched_of slots.now) ms self.entry.head.now AskWhole (λ m. summary («text_of» m)) result }
     {
-        let lent = watched(slots.len()) as usize;
-        whole::<A>(&slots[0..lent], self.head)
+        whole::<A>(watched_part(slots), self.head)
     }
 
     // Whether memory is sound; the scratch may hold anything.
@@ -137,13 +128,11 @@ impl<'a> View<'a> {
         store: &mut S,
         scratch: &mut [u8],
     ) -> Result<(), TextFault>
-        ensures { MemoryAudited A.Measure.means S.Store.bytes S.Store.capacity S.Store.reads store.old store.new (watched_of slots.now) (watched_of marks.now) self.entry.head.now scratch.old scratch.new result }
+        ensures { MemoryAudited A.Measure.means S.Store.contents store.old store.new (watched_of slots.now) (watched_of marks.now) self.entry.head.now scratch.old scratch.new result }
     {
-        let lent = watched(slots.len()) as usize;
-        let lent_marks = watched(marks.len()) as usize;
         audit_memory::<S, A>(
-            &slots[0..lent],
-            &marks[0..lent_marks],
+            watched_part(slots),
+            watched_part(marks),
             store,
             self.head,
             scratch,

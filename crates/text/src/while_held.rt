@@ -3,6 +3,7 @@ ghost use Rattle.std.specs.Prelude.{◌≡◌, ℕ, List, Ok};
 ghost use Rattle.plain.specs.declared.calls.Call.TheVariants.{Paste, Discard};
 ghost use Rattle.measures.specs.declared.mark_totals.MarkRow.{MarkRow};
 ghost use Rattle.measures.specs.declared.mark_totals.MarkTotals.{MarkTotals};
+ghost use Rattle.stores.specs.Stores.{Contents};
 ghost use Rattle.slots.specs.declared.records.Record.{Record};
 ghost use Rattle.slots.specs.declared.records.Tree.TheVariants.{Empty};
 ghost use Rattle.pieces.specs.Sound.{whole as «in_whole», held as «in_held»};
@@ -25,15 +26,15 @@ impl Held {
         store: &mut S,
         at: u32,
     ) -> Result<Whole, Refused<Held>>
-        ensures { EditsText A.Measure.means S.Store.bytes S.Store.capacity S.Store.reads (Paste at) «in_held» «in_whole» store.old store.new slots.old slots.new marks.old marks.new self.head (paste_head result) (outcome_of result) }
+        ensures { EditsText A.Measure.means S.Store.contents (Paste at) «in_held» «in_whole» store.old store.new slots.old slots.new marks.old marks.new self.head (paste_head result) (outcome_of result) }
     {
-        let lent = watched(slots.len()) as usize;
-        let lent_marks = watched(marks.len()) as usize;
+        let lent = usize::from(watched(slots.len()));
+        let lent_marks = usize::from(watched(marks.len()));
         let Held { mut head } = self;
         match paste::<S, A>(
             &mut head,
-            &mut slots[0..lent],
-            &mut marks[0..lent_marks],
+            &mut slots[..lent],
+            &mut marks[..lent_marks],
             store,
             at,
         ) {
@@ -47,12 +48,12 @@ impl Held {
 
     // Ends the held state on any memory.
     pub fn discard<A: Measure<Item = u8>>(self, slots: &mut [TextRecord<A::Value>]) -> Whole
-        ensures edits { (ms : List (Record MarkRow MarkTotals)) (B : List ℕ) (c : ℕ) → EditsText A.Measure.means (λ _. B) (λ _. c) (λ _. 0) Discard «in_held» «in_whole» (tt {0}) (tt {0}) slots.old slots.new ms ms self.head result.head (Ok tt) }
+        ensures edits { (ms : List (Record MarkRow MarkTotals)) (s : Contents) → EditsText A.Measure.means (λ (t : Contents). t) Discard «in_held» «in_whole» s s slots.old slots.new ms ms self.head result.head (Ok tt) }
         ensures no_clip { result.head.clip ≡ Empty }
     {
-        let lent = watched(slots.len()) as usize;
+        let lent = usize::from(watched(slots.len()));
         let Held { mut head } = self;
-        discard::<A>(&mut head, &mut slots[0..lent]);
+        discard::<A>(&mut head, &mut slots[..lent]);
         Whole { head }
     }
 

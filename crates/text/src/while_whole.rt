@@ -2,10 +2,12 @@
 ghost use Rattle.std.specs.Prelude.{◌≡◌, ℕ, List};
 ghost use Rattle.plain.specs.declared.calls.Call.TheVariants.{Insert, Delete, Cut};
 ghost use Rattle.plain.specs.declared.calls.Call.TheVariants.{Mark as AddMark};
+ghost use Rattle.stores.specs.Stores.{Contents};
 ghost use Rattle.pieces.specs.Sound.{whole as «in_whole», held as «in_held»};
 ghost use Rattle.text.specs.Texts.{OpensText, EditsText, cut_head, outcome_of};
 
 use crate::view::View;
+use crate::watching::watched_part;
 use crate::{Held, Refused, Whole};
 use head_edits::cutting::cut;
 use head_edits::deleting::delete;
@@ -25,14 +27,12 @@ impl Whole {
         marks: &mut [MarkRecord],
         store: &mut S,
     ) -> Result<Whole, TextFault>
-        ensures { OpensText A.Measure.means S.Store.bytes S.Store.capacity S.Store.reads store.old store.new slots.old slots.new marks.old marks.new result }
+        ensures { OpensText A.Measure.means S.Store.contents store.old store.new slots.old slots.new marks.old marks.new result }
     {
-        let lent = watched(slots.len()) as usize;
-        let lent_marks = watched(marks.len()) as usize;
-        match open::<S, A>(&mut slots[0..lent], &mut marks[0..lent_marks], store) {
-            Ok(head) => Ok(Whole { head }),
-            Err(fault) => Err(fault),
-        }
+        let lent = usize::from(watched(slots.len()));
+        let lent_marks = usize::from(watched(marks.len()));
+        let head = open::<S, A>(&mut slots[..lent], &mut marks[..lent_marks], store)?;
+        Ok(Whole { head })
     }
 
     pub fn insert<S: Store, A: Measure<Item = u8>>(
@@ -43,14 +43,14 @@ impl Whole {
         at: u32,
         bytes: &[u8],
     ) -> Result<(), TextFault>
-        ensures { EditsText A.Measure.means S.Store.bytes S.Store.capacity S.Store.reads (Insert at bytes.now) «in_whole» «in_whole» store.old store.new slots.old slots.new marks.old marks.new self.old.head self.new.head result }
+        ensures { EditsText A.Measure.means S.Store.contents (Insert at bytes.now) «in_whole» «in_whole» store.old store.new slots.old slots.new marks.old marks.new self.old.head self.new.head result }
     {
-        let lent = watched(slots.len()) as usize;
-        let lent_marks = watched(marks.len()) as usize;
+        let lent = usize::from(watched(slots.len()));
+        let lent_marks = usize::from(watched(marks.len()));
         insert::<S, A>(
             &mut self.head,
-            &mut slots[0..lent],
-            &mut marks[0..lent_marks],
+            &mut slots[..lent],
+            &mut marks[..lent_marks],
             store,
             at,
             bytes,
@@ -65,14 +65,14 @@ impl Whole {
         from: u32,
         to: u32,
     ) -> Result<(), TextFault>
-        ensures { EditsText A.Measure.means S.Store.bytes S.Store.capacity S.Store.reads (Delete from to) «in_whole» «in_whole» store.old store.new slots.old slots.new marks.old marks.new self.old.head self.new.head result }
+        ensures { EditsText A.Measure.means S.Store.contents (Delete from to) «in_whole» «in_whole» store.old store.new slots.old slots.new marks.old marks.new self.old.head self.new.head result }
     {
-        let lent = watched(slots.len()) as usize;
-        let lent_marks = watched(marks.len()) as usize;
+        let lent = usize::from(watched(slots.len()));
+        let lent_marks = usize::from(watched(marks.len()));
         delete::<S, A>(
             &mut self.head,
-            &mut slots[0..lent],
-            &mut marks[0..lent_marks],
+            &mut slots[..lent],
+            &mut marks[..lent_marks],
             store,
             from,
             to,
@@ -86,14 +86,13 @@ impl Whole {
         at: u32,
         label: u16,
     ) -> Result<(), TextFault>
-        ensures { (B : List ℕ) (c : ℕ) → EditsText A.Measure.means (λ _. B) (λ _. c) (λ _. 0) (AddMark at label) «in_whole» «in_whole» (tt {0}) (tt {0}) slots.now slots.now marks.old marks.new self.old.head self.new.head result }
+        ensures { (s : Contents) → EditsText A.Measure.means (λ (t : Contents). t) (AddMark at label) «in_whole» «in_whole» s s slots.now slots.now marks.old marks.new self.old.head self.new.head result }
     {
-        let lent = watched(slots.len()) as usize;
-        let lent_marks = watched(marks.len()) as usize;
+        let lent_marks = usize::from(watched(marks.len()));
         mark::<A>(
             &mut self.head,
-            &slots[0..lent],
-            &mut marks[0..lent_marks],
+            watched_part(slots),
+            &mut marks[..lent_marks],
             at,
             label,
         )
@@ -107,15 +106,15 @@ impl Whole {
         from: u32,
         to: u32,
     ) -> Result<Held, Refused<Whole>>
-        ensures { EditsText A.Measure.means S.Store.bytes S.Store.capacity S.Store.reads (Cut from to) «in_whole» «in_held» store.old store.new slots.old slots.new marks.old marks.new self.head (cut_head result) (outcome_of result) }
+        ensures { EditsText A.Measure.means S.Store.contents (Cut from to) «in_whole» «in_held» store.old store.new slots.old slots.new marks.old marks.new self.head (cut_head result) (outcome_of result) }
     {
-        let lent = watched(slots.len()) as usize;
-        let lent_marks = watched(marks.len()) as usize;
+        let lent = usize::from(watched(slots.len()));
+        let lent_marks = usize::from(watched(marks.len()));
         let mut head = self.head;
         match cut::<S, A>(
             &mut head,
-            &mut slots[0..lent],
-            &mut marks[0..lent_marks],
+            &mut slots[..lent],
+            &mut marks[..lent_marks],
             store,
             from,
             to,

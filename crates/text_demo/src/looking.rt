@@ -14,35 +14,25 @@ pub type Slot = TextRecord<LongestLine>;
 pub struct Look {
     pub done: Result<(), TextFault>,
     pub bytes: u32,
-    pub pieces: u32,
-    pub marks: u32,
-    pub slots: u32,
-    pub mark_slots: u32,
+    pub pieces: usize,
+    pub marks: usize,
+    pub slots: usize,
+    pub mark_slots: usize,
     pub sound: bool,
 }
 
-// How many slots hold a leaf.
-fn leaves<R: Copy, V: Copy>(slots: &[Record<R, V>]) -> u32 {
-    let mut count = 0u32;
-    for i in 0..slots.len() {
-        match &slots[i] {
-            Record::Leaf { .. } => count = count.saturating_add(1),
-            _ => {}
-        }
-    }
-    count
+fn leaves<R: Copy, V: Copy>(slots: &[Record<R, V>]) -> usize {
+    slots
+        .iter()
+        .filter(|slot| matches!(slot, Record::Leaf { .. }))
+        .count()
 }
 
-// How many slots are not free.
-fn used<R: Copy, V: Copy>(slots: &[Record<R, V>]) -> u32 {
-    let mut count = 0u32;
-    for i in 0..slots.len() {
-        match &slots[i] {
-            Record::Free(_) => {}
-            _ => count = count.saturating_add(1),
-        }
-    }
-    count
+fn used<R: Copy, V: Copy>(slots: &[Record<R, V>]) -> usize {
+    slots
+        .iter()
+        .filter(|slot| !matches!(slot, Record::Free(_)))
+        .count()
 }
 
 pub(crate) fn look_at<S: Store>(

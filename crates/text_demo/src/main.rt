@@ -73,8 +73,8 @@ fn exercise<S: Store>(
 
 fn main(rt: HostRuntime) -> anyhow::Result<()> {
     let heap = rt.alloc();
-    let mut slots = vec![in heap; Record::Free(Link::End); SLOTS]?;
-    let mut marks = vec![in heap; Record::Free(Link::End); SLOTS]?;
+    let mut slots = vec![in heap; Record::Free(None); SLOTS]?;
+    let mut marks = vec![in heap; Record::Free(None); SLOTS]?;
     let mut space = vec![in heap; 0u8; 1024]?;
     let original = Original::new(ORIGINAL);
     let buffer = Buffer::new(space.as_mut_slice());

@@ -6,6 +6,7 @@ use Rattle.plain.specs.Machine.{Machine}
 use Rattle.plain.specs.declared.faults.TextFault.{TextFault}
 use Rattle.measures.specs.declared.mark_totals.MarkRow.{MarkRow}
 use Rattle.measures.specs.declared.mark_totals.MarkTotals.{MarkTotals}
+use Rattle.stores.specs.Stores.{Contents}
 use Rattle.slots.specs.declared.records.Record.{Record}
 use Rattle.pieces.specs.Sound.{TextValue, Mode, held, Spells}
 use Rattle.pieces.specs.declared.rows.PieceRow.{PieceRow}
@@ -29,5 +30,5 @@ parted capacity = record {
 }
 
 -- Over an empty store with room for two bytes, and slots that held anything, memory spells that text in the end.
-pub record Holds {A S : Type 0} (am : List ℕ → A) (bytes : S → List ℕ) (capacity : S → ℕ) (s s' : S) (rs rs' : List (Record PieceRow (TextValue A))) (ms ms' : List (Record MarkRow MarkTotals)) (r : Result Head TextFault) : Type 0 where
-  pub spells : length rs ≡ 132 → length ms ≡ 130 → bytes s ≡ [] → 2 ≤ capacity s → (h : Head) × (r ≡ Ok h) × Spells am held (bytes s') (capacity s') rs' ms' h (parted (capacity s))
+pub record Holds {A S : Type 0} (am : List ℕ → A) (contents : S → Contents) (s s' : S) (rs rs' : List (Record PieceRow (TextValue A))) (ms ms' : List (Record MarkRow MarkTotals)) (r : Result Head TextFault) : Type 0 where
+  pub spells : length rs ≡ 132 → length ms ≡ 130 → (contents s).bytes ≡ [] → 2 ≤ (contents s).capacity → (h : Head) × (r ≡ Ok h) × Spells am held (contents s').bytes (contents s').capacity rs' ms' h (parted (contents s).capacity)

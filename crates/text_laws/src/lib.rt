@@ -13,11 +13,9 @@ use plain::faults::TextFault;
 use stores::Store;
 
 // Two machines that one memory spells, in one mode, are equal.
-pub fn one_text<V>() -> u8
+pub fn one_text<V>()
     ensures { OneText V }
-{
-    0
-}
+{}
 
 // Opens an empty store, inserts two bytes, marks the second and cuts it.
 pub fn held_text<S: Store, A: Measure<Item = u8>>(
@@ -25,16 +23,11 @@ pub fn held_text<S: Store, A: Measure<Item = u8>>(
     marks: &mut [MarkRecord],
     store: &mut S,
 ) -> Result<Head, TextFault>
-    ensures { Holds A.Measure.means S.Store.bytes S.Store.capacity store.old store.new slots.old slots.new marks.old marks.new result }
+    ensures { Holds A.Measure.means S.Store.contents store.old store.new slots.old slots.new marks.old marks.new result }
 {
-    match open::<S, A>(slots, marks, store) {
-        Err(fault) => Err(fault),
-        Ok(opened) => {
-            let mut head = opened;
-            insert::<S, A>(&mut head, slots, marks, store, 0, &[97, 98])?;
-            mark::<A>(&mut head, slots, marks, 1, 7)?;
-            cut::<S, A>(&mut head, slots, marks, store, 1, 2)?;
-            Ok(head)
-        }
-    }
+    let mut head = open::<S, A>(slots, marks, store)?;
+    insert::<S, A>(&mut head, slots, marks, store, 0, &[97, 98])?;
+    mark::<A>(&mut head, slots, marks, 1, 7)?;
+    cut::<S, A>(&mut head, slots, marks, store, 1, 2)?;
+    Ok(head)
 }

@@ -6,7 +6,9 @@ use Rattle.plain.specs.Tokens.{step, end_state, kind_of, token_of}
 use Rattle.plain.specs.Questions.{token_of_offset, token_of_number}
 use Rattle.plain.specs.declared.answers.Kind.{Kind}
 use Rattle.plain.specs.declared.answers.Token.{Token}
+use Rattle.lexer.specs.Numbers.{number_of}
 use Rattle.lexer.specs.Reading.{beginnings}
+use Rattle.stores.specs.Stores.{Contents}
 use Rattle.slots.specs.declared.records.Record.{Record}
 use Rattle.slots.specs.declared.records.Tree.{Tree}
 use Rattle.slots.specs.declared.records.Unsound.{Unsound}
@@ -41,7 +43,7 @@ module _ (t : List ℕ) (k : ℕ) (x y : TokenEdge) (X : EdgeOf t k x) (Y : Edge
       (omega arith, omega (arith, ap (beginnings 0) all, ap (beginnings 0) whole, one_more, begun_mono 0 (suc x.at) (length t) t (omega (arith, here.within))), λ lt. absurd (omega arith)))
       (cases_Bool y.begins)
 
-  between : token_of_number t k ≡ Some (token_of t x.at y.at k y.state)
+  between : token_of_number t k ≡ Some (token_of t x.at y.at k (number_of y.state))
   between =
       token_number_lem t k x.at y.at (record { within = here.within; begins = here.begins }) here.number ends.0 ends.1 ends.2
       ∙ ap (λ (s : ℕ). Some (token_of t x.at y.at k s)) (sym Y.state)
@@ -56,57 +58,57 @@ begun_length s (b ∷ bs) = by (step s b).1 (begun_length (step s b).0 bs)
     by false h = omega arith
 
 -- the token with a number
-abbrev Numbers : {A S : Type 0} → (S → List ℕ) → (S → ℕ) → (S → ℕ) → (List ℕ → A) → List (Record PieceRow (TextValue A)) → Tree → ℕ → S → S → Result (Option Token) Unsound → Type 0
-Numbers bytes capacity reads am rs tr k s s' r = Answered bytes capacity reads 517 am rs tr (λ _. Unit {0}) (λ t. token_of_number t k) s s' r
+abbrev Numbers : {A S : Type 0} → (S → Contents) → (List ℕ → A) → List (Record PieceRow (TextValue A)) → Tree → ℕ → S → S → Result (Option Token) Unsound → Type 0
+Numbers contents am rs tr k s s' r = Answered contents 517 am rs tr (λ _. Unit {0}) (λ t. token_of_number t k) s s' r
 
-module _ {A S : Type 0} {am : List ℕ → A} {bytes : S → List ℕ} {capacity reads : S → ℕ} {rs : List (Record PieceRow (TextValue A))} {tr : Tree} (k : ℕ) {s : S} where
-  pub token_zero : k ≡ 0 → Numbers bytes capacity reads am rs tr k s s (Ok None)
+module _ {A S : Type 0} {am : List ℕ → A} {contents : S → Contents} {rs : List (Record PieceRow (TextValue A))} {tr : Tree} (k : ℕ) {s : S} where
+  pub token_zero : k ≡ 0 → Numbers contents am rs tr k s s (Ok None)
   token_zero z = record { tells = λ T X _. ap (λ (n : ℕ). Ok (token_of_number T n)) (sym z); reading = reads_none }
 
-  module _ {s₁ : S} {rx : Result TokenEdge Unsound} (some : k ≡ 0 → ⊥) (E : EdgeFound bytes capacity reads am rs tr k s s₁ rx) where
-    begun_read : Reads bytes capacity reads 517 s s₁
+  module _ {s₁ : S} {rx : Result TokenEdge Unsound} (some : k ≡ 0 → ⊥) (E : EdgeFound contents am rs tr k s s₁ rx) where
+    begun_read : Reads contents 517 s s₁
     begun_read = reads_more (omega arith) E.reading
 
-    pub token_no_edge : {e : Unsound} {r : Result (Option Token) Unsound} → rx ≡ Err e → Numbers bytes capacity reads am rs tr k s s₁ r
+    pub token_no_edge : {e : Unsound} {r : Result (Option Token) Unsound} → rx ≡ Err e → Numbers contents am rs tr k s s₁ r
     token_no_edge bad = record { tells = λ T X _. absurd (ok_err (E.finds T X (omega arith)).1 bad); reading = begun_read }
 
     module _ {x : TokenEdge} (got : rx ≡ Ok x) where
-      from : {T : List ℕ} → TextAt am (bytes s) rs tr T → EdgeOf T k x
+      from : {T : List ℕ} → TextAt am (contents s).bytes rs tr T → EdgeOf T k x
       from {T} X = let H = E.finds T X (omega arith) in subst (EdgeOf T k) (ok_same H.1 got) H.2
 
-      pub token_past : x.begins ≡ false → Numbers bytes capacity reads am rs tr k s s₁ (Ok None)
+      pub token_past : x.begins ≡ false → Numbers contents am rs tr k s s₁ (Ok None)
       token_past nay = record { tells = λ T X _. ap Ok (sym (no_token T k ((from X).none nay).1)); reading = begun_read }
 
-      module _ {s₂ : S} {k' : ℕ} {ry : Result TokenEdge Unsound} (yea : x.begins ≡ true) (k_is : k' ≡ min (k + 1) 4294967295) (G : EdgeFound bytes capacity reads am rs tr k' s₁ s₂ ry) where
-        ended_read : Reads bytes capacity reads 512 s s₂
+      module _ {s₂ : S} {k' : ℕ} {ry : Result TokenEdge Unsound} (yea : x.begins ≡ true) (k_is : k' ≡ min (k + 1) 4294967295) (G : EdgeFound contents am rs tr k' s₁ s₂ ry) where
+        ended_read : Reads contents 512 s s₂
         ended_read = reads_then (omega arith) E.reading G.reading
 
-        next_is : {T : List ℕ} → TextAt am (bytes s) rs tr T → k' ≡ k + 1
+        next_is : {T : List ℕ} → TextAt am (contents s).bytes rs tr T → k' ≡ k + 1
         next_is {T} X =
             let B : BeginsAt T k x.at = (from X).some yea in
             omega (arith, light_text X, B.within, B.number, begun_length 0 (take x.at T), length-take x.at T)
 
-        until : {T : List ℕ} → TextAt am (bytes s) rs tr T → (y : TokenEdge) × (ry ≡ Ok y) × EdgeOf T k' y
+        until : {T : List ℕ} → TextAt am (contents s).bytes rs tr T → (y : TokenEdge) × (ry ≡ Ok y) × EdgeOf T k' y
         until {T} X = G.finds T (same_text E.reading.same_bytes X) (omega (arith, next_is X))
 
-        pub token_no_end : {e : Unsound} {r : Result (Option Token) Unsound} → ry ≡ Err e → Numbers bytes capacity reads am rs tr k s s₂ r
+        pub token_no_end : {e : Unsound} {r : Result (Option Token) Unsound} → ry ≡ Err e → Numbers contents am rs tr k s s₂ r
         token_no_end bad = record { tells = λ T X _. absurd (ok_err (until X).1 bad); reading = reads_more (omega arith) ended_read }
 
         module _ {s₃ : S} {y : TokenEdge} {rk : Result Kind Unsound} (got-y : ry ≡ Ok y)
-            (K : Answered bytes capacity reads 5 am rs tr (λ t. y.at ≤ length t) (λ t. kind_of y.state (slice t x.at y.at)) s₂ s₃ rk) where
-          all_read : Reads bytes capacity reads 517 s s₃
+            (K : Answered contents 5 am rs tr (λ t. y.at ≤ length t) (λ t. kind_of (number_of y.state) (slice t x.at y.at)) s₂ s₃ rk) where
+          all_read : Reads contents 517 s s₃
           all_read = reads_then (omega arith) ended_read K.reading
 
-          to : {T : List ℕ} → TextAt am (bytes s) rs tr T → EdgeOf T (k + 1) y
+          to : {T : List ℕ} → TextAt am (contents s).bytes rs tr T → EdgeOf T (k + 1) y
           to {T} X = let H = until X in subst (λ (n : ℕ). EdgeOf T n y) (next_is X) (subst (EdgeOf T k') (ok_same H.1 got-y) H.2)
 
-          named : {T : List ℕ} → TextAt am (bytes s) rs tr T → rk ≡ Ok (kind_of y.state (slice T x.at y.at))
+          named : {T : List ℕ} → TextAt am (contents s).bytes rs tr T → rk ≡ Ok (kind_of (number_of y.state) (slice T x.at y.at))
           named {T} X = K.tells T (same_text ended_read.same_bytes X) (ends T k x y (from X) (to X) yea).0
 
-          pub token_no_kind : {e : Unsound} {r : Result (Option Token) Unsound} → rk ≡ Err e → Numbers bytes capacity reads am rs tr k s s₃ r
+          pub token_no_kind : {e : Unsound} {r : Result (Option Token) Unsound} → rk ≡ Err e → Numbers contents am rs tr k s s₃ r
           token_no_kind bad = record { tells = λ T X _. absurd (ok_err (named X) bad); reading = all_read }
 
-          pub token_found : {d : Kind} → rk ≡ Ok d → Numbers bytes capacity reads am rs tr k s s₃ (Ok (Some (record { start = x.at; end = y.at; number = k; kind = d })))
+          pub token_found : {d : Kind} → rk ≡ Ok d → Numbers contents am rs tr k s s₃ (Ok (Some (record { start = x.at; end = y.at; number = k; kind = d })))
           token_found {d} got-d = record {
             tells = λ T X _.
                 ap (λ (n : Kind). Ok (Some (record { start = x.at; end = y.at; number = k; kind = n }))) (ok_same got-d (named X))
@@ -115,16 +117,16 @@ module _ {A S : Type 0} {am : List ℕ → A} {bytes : S → List ℕ} {capacity
           }
 
 -- the token at an offset
-module _ {A S : Type 0} {am : List ℕ → A} {bytes : S → List ℕ} {capacity reads : S → ℕ} {rs : List (Record PieceRow (TextValue A))} {tr : Tree} (p : ℕ) {s s₁ : S} {rn : Result ℕ Unsound}
-    (C : Answered bytes capacity reads 256 am rs tr (λ t. p < length t) (λ t. beginnings 0 (take (p + 1) t)) s s₁ rn) where
-  pub around_uncounted : {e : Unsound} {r : Result (Option Token) Unsound} → rn ≡ Err e → Answered bytes capacity reads 773 am rs tr (λ t. p < length t) (λ t. token_of_offset t p) s s₁ r
+module _ {A S : Type 0} {am : List ℕ → A} {contents : S → Contents} {rs : List (Record PieceRow (TextValue A))} {tr : Tree} (p : ℕ) {s s₁ : S} {rn : Result ℕ Unsound}
+    (C : Answered contents 256 am rs tr (λ t. p < length t) (λ t. beginnings 0 (take (p + 1) t)) s s₁ rn) where
+  pub around_uncounted : {e : Unsound} {r : Result (Option Token) Unsound} → rn ≡ Err e → Answered contents 773 am rs tr (λ t. p < length t) (λ t. token_of_offset t p) s s₁ r
   around_uncounted bad = record {
     tells = λ T X lt. absurd (ok_err (C.tells T X lt) bad);
     reading = reads_more (omega arith) C.reading;
   }
 
-  pub around_found : {s₂ : S} {n : ℕ} {r : Result (Option Token) Unsound} → rn ≡ Ok n → Answered bytes capacity reads 517 am rs tr (λ _. Unit {0}) (λ t. token_of_number t n) s₁ s₂ r
-      → Answered bytes capacity reads 773 am rs tr (λ t. p < length t) (λ t. token_of_offset t p) s s₂ r
+  pub around_found : {s₂ : S} {n : ℕ} {r : Result (Option Token) Unsound} → rn ≡ Ok n → Answered contents 517 am rs tr (λ _. Unit {0}) (λ t. token_of_number t n) s₁ s₂ r
+      → Answered contents 773 am rs tr (λ t. p < length t) (λ t. token_of_offset t p) s s₂ r
   around_found {n = n} got N = record {
     tells = λ T X lt.
         let next : p + 1 ≡ suc p = omega arith in

@@ -1,16 +1,18 @@
 // Where tokens begin, and how many.
-ghost use Rattle.std.specs.Prelude.{◌+◌, ◌<◌, length, take};
+ghost use Rattle.std.specs.Prelude.{◌≡◌, ◌+◌, ◌<◌, length, take};
 ghost use Rattle.lexer.specs.Reading.{beginnings};
 ghost use Rattle.asking.specs.Texts.{Answered};
 ghost use Rattle.token_answers.specs.Edges.{EdgeFound};
 
 use asking::finding::find_row;
-use edits::edges::AtByte;
+use edits::edges::{AtByte, at_byte};
 use lexer::probes::TokensBegun;
+use lexer::states::State;
 use lexer::tokens::whole;
 use measures::Measure;
-use measures::probes::{OnLeft, OnRight, PastByte};
+use measures::probes::{OnLeft, OnRight};
 use pieces::head::{TextMeasure, TextRecord};
+use pieces::piece::Piece;
 use pieces::rows::PieceRow;
 use slots::records::{Tree, Unsound};
 use stores::Store;
@@ -19,11 +21,22 @@ use token_questions::scan::{Goal, scan};
 // Finds the piece in which a token begins.
 pub type AtToken = OnLeft<OnRight<TokensBegun>>;
 
-// The offset at which a token begins, or the end of the text, and the state in which the text before it ends.
+pub fn at_token(count: u32) -> AtToken
+    ensures { result.probe.probe.count ≡ count }
+{
+    OnLeft {
+        probe: OnRight {
+            probe: TokensBegun { count },
+        },
+    }
+}
+
+// The offset at which a token begins, or the end of the text, and the state in which the text before it ends. Both are
+// read whether it begins or not, so the flag stays beside them.
 #[derive(Clone, Copy)]
 pub struct TokenEdge {
     pub at: u32,
-    pub state: u8,
+    pub state: State,
     pub begins: bool,
 }
 
@@ -34,35 +47,31 @@ pub fn token_edge<S: Store, A: Measure<Item = u8>>(
     text: Tree,
     number: u32,
 ) -> Result<TokenEdge, Unsound>
-    ensures { EdgeFound S.Store.bytes S.Store.capacity S.Store.reads A.Measure.means slots.now text number store.old store.new result }
+    ensures { EdgeFound S.Store.contents A.Measure.means slots.now text number store.old store.new result }
 {
     let mut before = TextMeasure::<A>::empty();
-    let probe = OnLeft {
-        probe: OnRight {
-            probe: TokensBegun { count: number },
-        },
-    };
-    let found = find_row::<PieceRow, TextMeasure<A>, AtToken>(slots, text, &probe, &mut before)?;
+    let found = find_row::<PieceRow, TextMeasure<A>, AtToken>(
+        slots,
+        text,
+        &at_token(number),
+        &mut before,
+    )?;
     let bytes = before.left.left.bytes;
     let read = whole(&before.left.right);
-    match found {
-        Some(row) => match row.piece() {
-            Some(piece) => {
-                let stop = scan(store, piece, read, Goal::Tokens(number))?;
-                Ok(TokenEdge {
-                    at: bytes.saturating_add(stop.index),
-                    state: stop.before.state,
-                    begins: true,
-                })
-            }
-            None => Err(Unsound),
-        },
-        None => Ok(TokenEdge {
+    let Some(row) = found else {
+        return Ok(TokenEdge {
             at: bytes,
             state: read.state,
             begins: false,
-        }),
-    }
+        });
+    };
+    let piece = Piece::try_from(row)?;
+    let stop = scan(store, piece, read, Goal::Tokens(number))?;
+    Ok(TokenEdge {
+        at: bytes.saturating_add(stop.index),
+        state: stop.before.state,
+        begins: true,
+    })
 }
 
 // The number of the token that an offset lies in: how many tokens begin up to it and at it.
@@ -72,25 +81,19 @@ pub fn number_at<S: Store, A: Measure<Item = u8>>(
     text: Tree,
     at: u32,
 ) -> Result<u32, Unsound>
-    ensures { Answered S.Store.bytes S.Store.capacity S.Store.reads 256 A.Measure.means slots.now text (λ t. at < length t) (λ t. beginnings 0 (take (at + 1) t)) store.old store.new result }
+    ensures { Answered S.Store.contents 256 A.Measure.means slots.now text (λ t. at < length t) (λ t. beginnings 0 (take (at + 1) t)) store.old store.new result }
 {
     let mut before = TextMeasure::<A>::empty();
-    let probe = OnLeft {
-        probe: OnLeft {
-            probe: PastByte { at },
-        },
-    };
-    let found = find_row::<PieceRow, TextMeasure<A>, AtByte>(slots, text, &probe, &mut before)?;
+    let found = find_row::<PieceRow, TextMeasure<A>, AtByte>(
+        slots,
+        text,
+        &at_byte(at),
+        &mut before,
+    )?;
     let inside = at.saturating_sub(before.left.left.bytes);
     let read = whole(&before.left.right);
-    match found {
-        Some(row) => match row.piece() {
-            Some(piece) => {
-                let stop = scan(store, piece, read, Goal::Bytes(inside.saturating_add(1)))?;
-                Ok(stop.after.tokens)
-            }
-            None => Err(Unsound),
-        },
-        None => Err(Unsound),
-    }
+    let row = found.ok_or(Unsound)?;
+    let piece = Piece::try_from(row)?;
+    let stop = scan(store, piece, read, Goal::Bytes(inside.saturating_add(1)))?;
+    Ok(stop.after.tokens)
 }

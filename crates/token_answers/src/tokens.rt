@@ -13,7 +13,6 @@ use crate::edges::{number_at, token_edge};
 use crate::words::kind_between;
 use edits::doors::size_of;
 use measures::Measure;
-use pieces::faults::sound;
 use pieces::head::{Head, TextRecord};
 use plain::answers::Token;
 use plain::faults::TextFault;
@@ -27,7 +26,7 @@ pub fn token_numbered<S: Store, A: Measure<Item = u8>>(
     text: Tree,
     number: u32,
 ) -> Result<Option<Token>, Unsound>
-    ensures { Answered S.Store.bytes S.Store.capacity S.Store.reads 517 A.Measure.means slots.now text (λ _. Unit {0}) (λ t. token_of_number t number) store.old store.new result }
+    ensures { Answered S.Store.contents 517 A.Measure.means slots.now text (λ _. Unit {0}) (λ t. token_of_number t number) store.old store.new result }
 {
     if number == 0 {
         return Ok(None);
@@ -53,7 +52,7 @@ pub fn token_around<S: Store, A: Measure<Item = u8>>(
     text: Tree,
     at: u32,
 ) -> Result<Option<Token>, Unsound>
-    ensures { Answered S.Store.bytes S.Store.capacity S.Store.reads 773 A.Measure.means slots.now text (λ t. at < length t) (λ t. token_of_offset t at) store.old store.new result }
+    ensures { Answered S.Store.contents 773 A.Measure.means slots.now text (λ t. at < length t) (λ t. token_of_offset t at) store.old store.new result }
 {
     let number = number_at::<S, A>(slots, store, text, at)?;
     token_numbered::<S, A>(slots, store, text, number)
@@ -65,13 +64,13 @@ pub fn token_at<S: Store, A: Measure<Item = u8>>(
     head: &Head,
     at: u32,
 ) -> Result<Option<Token>, TextFault>
-    ensures { (ms : List (Record MarkRow MarkTotals)) → ToldBy A.Measure.means S.Store.bytes S.Store.capacity S.Store.reads slots.now ms head.now (TokenAt at) (λ m. token_of_offset («text_of» m) at) store.old store.new result }
+    ensures { (ms : List (Record MarkRow MarkTotals)) → ToldBy A.Measure.means S.Store.contents slots.now ms head.now (TokenAt at) (λ m. token_of_offset («text_of» m) at) store.old store.new result }
 {
-    let size = sound(size_of::<A>(slots, head.text))?;
+    let size = size_of::<A>(slots, head.text)?;
     if at >= size {
         return Err(TextFault::Offset);
     }
-    sound(token_around::<S, A>(slots, store, head.text, at))
+    Ok(token_around::<S, A>(slots, store, head.text, at)?)
 }
 
 // Token 0 is none.
@@ -81,7 +80,7 @@ pub fn token_number<S: Store, A: Measure<Item = u8>>(
     head: &Head,
     number: u32,
 ) -> Result<Option<Token>, TextFault>
-    ensures { (ms : List (Record MarkRow MarkTotals)) → ToldBy A.Measure.means S.Store.bytes S.Store.capacity S.Store.reads slots.now ms head.now (TokenNumber number) (λ m. token_of_number («text_of» m) number) store.old store.new result }
+    ensures { (ms : List (Record MarkRow MarkTotals)) → ToldBy A.Measure.means S.Store.contents slots.now ms head.now (TokenNumber number) (λ m. token_of_number («text_of» m) number) store.old store.new result }
 {
-    sound(token_numbered::<S, A>(slots, store, head.text, number))
+    Ok(token_numbered::<S, A>(slots, store, head.text, number)?)
 }

@@ -1,8 +1,8 @@
 -- The tokens of a text by the bytes that begin one: each ends where the next begins.
-use Rattle.std.proofs.Common.{◌≡◌, ℕ, zero, suc, ◌+◌, ◌-◌, ◌<◌, ◌≤◌, Bool, true, false, cond, ltb, List, [], ◌∷◌, ◌++◌, length, get_or, take, drop, Some, None, Option, sym, refl, ap, ◌∙◌, ap₂, ⊎_elim, arith, length-drop, take-add}
+use Rattle.std.proofs.Common.{◌≡◌, ℕ, zero, suc, ◌+◌, ◌-◌, ◌<◌, ◌≤◌, Bool, true, false, cond, ltb, List, [], ◌∷◌, ◌++◌, length, get_or, take, drop, Some, None, sym, refl, ap, ◌∙◌, ap₂, ⊎_elim, arith, length-drop, take-add}
 use Rattle.std.proofs.lemmas.List.{get_or-drop}
 use Rattle.std.proofs.lemmas.Bool.{lt-ltb, le-ltb, cases_lt, cond-true, cond-false}
-use Rattle.plain.specs.Lists.{at, nth, find}
+use Rattle.plain.specs.Lists.{at, find}
 use Rattle.plain.specs.Tokens.{step, end_state, token_of, tokens, tokens_from}
 use Rattle.plain.specs.Questions.{token_of_offset, token_of_number}
 use Rattle.plain.specs.declared.answers.Token.{Token}

@@ -3,6 +3,7 @@ use Rattle.std.specs.Prelude.{◌≡◌, ℕ, ◌+◌, ◌<◌, ◌≤◌, Bool,
 use Rattle.measures.specs.Law.{heaviest}
 use Rattle.lexer.specs.Reading.{read_from}
 use Rattle.lexer.specs.declared.tokens.TokenRow.{TokenRow}
+use Rattle.stores.specs.Stores.{Contents}
 use Rattle.slots.specs.declared.records.Unsound.{Unsound}
 use Rattle.token_questions.specs.declared.scan.Goal.{Goal}
 use Rattle.token_questions.specs.declared.scan.Goal.TheVariants.{Bytes, Tokens, Strays}
@@ -24,9 +25,9 @@ pub record Stops (q : ℕ) (w bs : List ℕ) (goal : Goal) (x : Stop) : Type 0 w
   pub no : (x.index ≡ 0) ⊎ (reached goal x.index x.before ≡ false)
 
 -- the n bytes at address a were read on from the row
-pub record Scanned {S : Type 0} (bytes : S → List ℕ) (capacity reads : S → ℕ) (s s' : S) (a n : ℕ) (row : TokenRow) (goal : Goal) (r : Result Stop Unsound) : Type 0 where
-  pub stops : (q : ℕ) (w bs : List ℕ) → bs ≡ take n (drop a (bytes s)) → row ≡ read_from q w → a + n ≤ length (bytes s) → length w + n ≤ heaviest
+pub record Scanned {S : Type 0} (contents : S → Contents) (s s' : S) (a n : ℕ) (row : TokenRow) (goal : Goal) (r : Result Stop Unsound) : Type 0 where
+  pub stops : (q : ℕ) (w bs : List ℕ) → bs ≡ take n (drop a (contents s).bytes) → row ≡ read_from q w → a + n ≤ length (contents s).bytes → length w + n ≤ heaviest
       → reached goal n (read_from q (w ++ bs)) ≡ true → (x : Stop) × (r ≡ Ok x) × Stops q w bs goal x
-  pub few : reads s' ≤ reads s + 256
-  pub same_bytes : bytes s' ≡ bytes s
-  pub same_capacity : capacity s' ≡ capacity s
+  pub few : (contents s').reads ≤ (contents s).reads + 256
+  pub same_bytes : (contents s').bytes ≡ (contents s).bytes
+  pub same_capacity : (contents s').capacity ≡ (contents s).capacity

@@ -19,10 +19,10 @@ impl Goal {
     fn is_reached(&self, bytes: u32, row: &TokenRow) -> bool
         ensures { result ≡ reached self.now bytes row.now }
     {
-        match self {
-            Goal::Bytes(count) => bytes >= *count,
-            Goal::Tokens(count) => row.tokens >= *count,
-            Goal::Strays(count) => row.strays >= *count,
+        match *self {
+            Goal::Bytes(count) => bytes >= count,
+            Goal::Tokens(count) => row.tokens >= count,
+            Goal::Strays(count) => row.strays >= count,
         }
     }
 }
@@ -43,25 +43,22 @@ pub fn scan<S: Store>(
     row: TokenRow,
     goal: Goal,
 ) -> Result<Stop, Unsound>
-    ensures { Scanned S.Store.bytes S.Store.capacity S.Store.reads store.old store.new piece.address piece.length row goal result }
+    ensures { Scanned S.Store.contents store.old store.new piece.address piece.length row goal result }
 {
     let mut before = row;
     for i in 0..piece.length {
-        match store.read(piece.address + i as u32) {
-            Some(byte) => {
-                let after = before.and_byte(byte);
-                if goal.is_reached(i as u32 + 1, &after) {
-                    return Ok(Stop {
-                        index: i as u32,
-                        byte,
-                        before,
-                        after,
-                    });
-                }
-                before = after;
-            }
-            None => return Err(Unsound),
+        let index = u32::from(i);
+        let byte = store.read(piece.address + index).ok_or(Unsound)?;
+        let after = before.and_byte(byte);
+        if goal.is_reached(index + 1, &after) {
+            return Ok(Stop {
+                index,
+                byte,
+                before,
+                after,
+            });
         }
+        before = after;
     }
     Err(Unsound)
 }

@@ -2,9 +2,10 @@
 use Rattle.std.proofs.Common.{sym, refl, ap, ◌∙◌, subst, append_assoc, arith}
 use Rattle.measures.specs.Law.{heaviest}
 use Rattle.std.specs.Prelude.{◌≡◌, List, ◌∷◌, ◌++◌, ℕ, suc, ◌+◌, ◌≤◌, ◌<◌, length, get_or, set}
+use Rattle.std.specs.declared.option.Option.TheVariants.{Some}
 use Rattle.std.specs.declared.result.Result.{Result}
 use Rattle.std.specs.declared.result.Result.TheVariants.{Ok, Err}
-use Rattle.tree.specs.Words.{Unsound, Link, To, Digit, Tree, Deep, Record, Free, Level, Side, Front, Back}
+use Rattle.tree.specs.Words.{Unsound, Link, Digit, Tree, Deep, Record, Free, Level, Side, Front, Back}
 use Rattle.slots.specs.Ghost.{Twig, Arm, a1, a2, a3, a4, Finger, deep, same, occ_list, head_of, none, root, digit_of, tree_of, rows_twig, rows_arm, rows, occ_twig, occ_arm, occ, At, FitTwig, FitArm, Fit, Chain, Calm, Off}
 use Rattle.slots.specs.Sides.{pick, ends}
 use Rattle.slots.specs.Values.{mean, wt, JoinedOk, value_in, node_of}
@@ -22,10 +23,18 @@ module _ {R I V : Type 0} {weigh : I → ℕ} {means : List I → V} {rs : List 
   pub join_back : {side : Side} {x i : ℕ} {v r : Result V Unsound} → side ≡ Back → v ≡ value_in (get_or rs i none) → JoinedOk weigh means v (value_in (get_or rs x none)) r → JoinedEnds weigh means rs side x i r
   join_back {side} {x} {i} {v} {r} is va jo = subst (λ s. JoinedEnds weigh means rs s x i r) (sym is) (record { joins = λ items xs ys p q light. join_rows jo items ys xs light (va ∙ q) p })
 
-  pub node_ok : {d : Digit} {i : ℕ} {all : Result V Unsound} {value : V} {nd : Result (Record R V) Unsound} {c : Record R V} {rs' : List (Record R V)} {f f' : Link} {p : Result ℕ Unsound} {w : Result (Unit {0}) Unsound}
-      → DigitValued weigh means rs d all → all ≡ Ok value → nd ≡ node_of d value → nd ≡ Ok c → Taken rs f f' p → p ≡ Ok i → Wrote rs rs' i c w → NodePut weigh means rs rs' f f' d (Ok i)
-  node_ok {d} {i} {nd = nd} {c} va is nis got take took wrote = record {
+  pub no_value_there : {side : Side} {x i : ℕ} {e : Unsound} {r : Result V Unsound} → Err e ≡ value_in (get_or rs x none) → JoinedEnds weigh means rs side x i r
+  no_value_there bad = record { joins = λ items xs ys p q light. absurd (ok_err p (sym bad)) }
+
+  pub no_value_here : {side : Side} {x i : ℕ} {e : Unsound} {r : Result V Unsound} → Err e ≡ value_in (get_or rs i none) → JoinedEnds weigh means rs side x i r
+  no_value_here bad = record { joins = λ items xs ys p q light. absurd (ok_err q (sym bad)) }
+
+  -- nothing but the free link changed when the slot was taken
+  pub node_ok : {d : Digit} {i : ℕ} {all : Result V Unsound} {value : V} {nd : Result (Record R V) Unsound} {c : Record R V} {rs₁ rs' : List (Record R V)} {f f' : Link} {p : Result ℕ Unsound} {w : Result (Unit {0}) Unsound}
+      → DigitValued weigh means rs d all → all ≡ Ok value → nd ≡ node_of d value → nd ≡ Ok c → Taken rs f f' p → rs₁ ≡ rs → p ≡ Ok i → Wrote rs₁ rs' i c w → NodePut weigh means rs rs' f f' d (Ok i)
+  node_ok {d} {i} {nd = nd} {c} {rs' = rs'} {w = w} va is nis got take kept took wrote₁ = record {
     puts = λ items A c₁ k n ns ea ef chain fit light cis.
+        let wrote : Wrote rs rs' i c w = subst (λ q. Wrote q rs' i c w) kept wrote₁ in
         let t = take.takes n ns ef chain in
         let n-is : i ≡ n = ok_same took t.0 in
         let v-is = ok_same is (va.values items A k ea fit light) in
@@ -33,10 +42,11 @@ module _ {R I V : Type 0} {weigh : I → ℕ} {means : List I → V} {rs : List 
         (ap Ok n-is, t.1, (wrote.writes (omega (arith, chain.0.within, n-is))).1 ∙ ap (λ q. set rs q c) n-is ∙ ap (λ q. set rs n q) c-is);
   }
 
-  pub node_no_write : {d : Digit} {i : ℕ} {c : Record R V} {rs' : List (Record R V)} {f f' : Link} {p r : Result ℕ Unsound} {w : Result (Unit {0}) Unsound} {e : Unsound}
-      → Taken rs f f' p → p ≡ Ok i → Wrote rs rs' i c w → w ≡ Err e → NodePut weigh means rs rs' f f' d r
-  node_no_write {i = i} take took wrote bad = record {
+  pub node_no_write : {d : Digit} {i : ℕ} {c : Record R V} {rs₁ rs' rs'' : List (Record R V)} {f f' : Link} {p r : Result ℕ Unsound} {w : Result (Unit {0}) Unsound} {e : Unsound}
+      → Taken rs f f' p → rs₁ ≡ rs → p ≡ Ok i → Wrote rs₁ rs' i c w → w ≡ Err e → NodePut weigh means rs rs'' f f' d r
+  node_no_write {i = i} {c} {rs' = rs'} {w = w} take kept took wrote₁ bad = record {
     puts = λ items A c₁ k n ns ea ef chain fit light cis.
+        let wrote : Wrote rs rs' i c w = subst (λ q. Wrote q rs' i c w) kept wrote₁ in
         let n-is : i ≡ n = ok_same took (take.takes n ns ef chain).0 in
         absurd (ok_err (wrote.writes (omega (arith, chain.0.within, n-is))).0 bad);
   }
@@ -111,7 +121,7 @@ module _ {R V : Type 0} where
   pub record Unpacked (mn : List R → V) (rs rs₁ : List (Record R V)) (f f₁ : Link) (r : Result Digit Unsound) (w : Twig R V) (k : ℕ) : Type 0 where
     pub arm : Arm R V
     pub ok : r ≡ Ok (digit_of arm)
-    pub first : To (root w) ≡ f₁
+    pub first : Some (root w) ≡ f₁
     pub at : At rs₁ (root w) (Free f)
     pub off : Off rs rs₁ (same (root w))
     pub text : rows_arm arm ≡ rows_twig w
@@ -129,7 +139,7 @@ module _ {R V : Type 0} where
 
 module _ {R I V : Type 0} {weigh : I → ℕ} {means : List I → V} where
   pub node_done : {rs rs₁ : List (Record R V)} {f f₁ : Link} {d : Digit} {p : Result ℕ Unsound} → NodePut weigh means rs rs₁ f f₁ d p
-      → (items : R → List I) (A : Arm R V) (n : ℕ) (ns : List ℕ) (k : ℕ) → Nodal A → digit_of A ≡ d → To n ≡ f → Chain rs (n ∷ ns) → FitArm (mean means items) rs A k
+      → (items : R → List I) (A : Arm R V) (n : ℕ) (ns : List ℕ) (k : ℕ) → Nodal A → digit_of A ≡ d → Some n ≡ f → Chain rs (n ∷ ns) → FitArm (mean means items) rs A k
       → wt weigh items (rows_arm A) ≤ heaviest → ((j : ℕ) → occ_arm A j + (same n j + occ_list ns j) ≤ 1) → Noded (mean means items) rs rs₁ f₁ p A n ns k
   node_done {rs} {rs₁} {d = d} np items A n ns k nd ed ef chain fit light once =
       let mn : List R → V = mean means items in

@@ -94,6 +94,14 @@ module _ {R I V : Type 0} {weigh : I → ℕ} {means : List I → V} where
         };
   }
 
+  pub settle_no_value : {rs rs' : List (Record R V)} {s : Side} {i : ℕ} {n d a b : Digit} {tm : Tree} {value : Result V Unsound} {r : Result Tree Unsound} {e : Unsound}
+      → a ≡ pick s n d → b ≡ pick s d n → LevelValued weigh means rs a tm b value → value ≡ Err e → Settled weigh means rs rs' s i n tm d r
+  settle_no_value {rs} {s = s} {i} {n} {d} {a} {b} {tm} {value} ea eb₁ va bad = record {
+    settles = λ items f N m B fs k en et eb fn h.
+        let va₁ : LevelValued weigh means rs (pick s n d) tm (pick s d n) value = subst (λ q. LevelValued weigh means rs (pick s n d) tm q value) eb₁ (subst (λ q. LevelValued weigh means rs q tm b value) ea va) in
+        absurd (ok_err (level_joined s va₁ items N m B k en et eb fn h.fit_m h.fit_b h.light) bad);
+  }
+
   -- a digit of one slot needs no level
   pub replant_one : {rs rs' : List (Record R V)} {f f' : Link} {i a : ℕ} {d : Digit} {w : Result (Unit {0}) Unsound} → d ≡ One a → Given rs rs' f f' i w → Replanted weigh means rs rs' f f' i d (Ok (Single a))
   replant_one {rs} {rs'} {f} {f'} {i} {a} is give = record {
@@ -179,11 +187,11 @@ module _ {R I V : Type 0} {weigh : I → ℕ} {means : List I → V} where
       let S = rp₁.grows items A ns k ea (sym t.1) chain.0.within fit chain.1 light (λ j. omega (arith, once j)) in
       shrunk_after items (λ j. 0) (λ j. occ_arm A j + occ_list (n ∷ ns) j) off_refl (λ j. inr refl) S refl (λ j. omega arith) (λ j z. refl) (omega arith) (omega arith)
 
-  pub plant_some : {rs rs' : List (Record R V)} {f f₁ f' : Link} {o : Option Digit} {d : Digit} {i : ℕ} {p : Result ℕ Unsound} {r : Result Tree Unsound} → o ≡ Some d → Taken rs f f₁ p → p ≡ Ok i → Replanted weigh means rs rs' f₁ f' i d r → Planted weigh means rs rs' f f' o r
-  plant_some {rs} {rs'} {f} {f₁} {f'} {o} {d} {r = r} is took got rp = record {
+  pub plant_some : {rs rs₁ rs' : List (Record R V)} {f f₁ f' : Link} {o : Option Digit} {d : Digit} {i : ℕ} {p : Result ℕ Unsound} {r : Result Tree Unsound} → o ≡ Some d → Taken rs f f₁ p → rs₁ ≡ rs → p ≡ Ok i → Replanted weigh means rs₁ rs' f₁ f' i d r → Planted weigh means rs rs' f f' o r
+  plant_some {rs} {rs₁} {rs'} {f} {f₁} {f'} {o} {d} {i} {r = r} is took kept got rp = record {
     plants = λ items Q fs k eq ef fq chain light once long.
         part_some (λ Q. FitPart (mean means items) rs Q k → wt weigh items (rows_part Q) ≤ heaviest → ((j : ℕ) → occ_part Q j + occ_list fs j ≤ 1) → Shrunk weigh means items rs rs' f' r (rows_part Q) (λ j. occ_part Q j + occ_list fs j) 1 (length fs - 1) k) d
-        (λ A ea fa l on. plant_go took got rp items A fs k ea ef fa chain l on long) Q (eq ∙ is) fq light once;
+        (λ A ea fa l on. plant_go took got (subst (λ q. Replanted weigh means q rs' f₁ f' i d r) kept rp) items A fs k ea ef fa chain l on long) Q (eq ∙ is) fq light once;
   }
 
   pub plant_no_slot : {rs rs' : List (Record R V)} {f f₁ f' : Link} {o : Option Digit} {p : Result ℕ Unsound} {e : Unsound} {r : Result Tree Unsound} → Taken rs f f₁ p → p ≡ Err e → Planted weigh means rs rs' f f' o r
@@ -423,3 +431,7 @@ module _ {R I V : Type 0} {weigh : I → ℕ} {means : List I → V} where
     nothing = p.nothing;
     pops = λ items t fs full h. p.pops items t fs 0 full (record { tree = h.tree; first = h.first; fit = h.fit; chain = h.chain; once = h.once; light = h.light }) (omega (arith, few_levels (mean means items) rs t h.fit h.small));
   }
+
+  -- the slots as the arena left them
+  pub popped_at : {rs rs₁ rs' : List (Record R V)} {f f' : Link} {s : Side} {tr : Tree} {r : Result (Option Popped) Unsound} → rs₁ ≡ rs' → PopsFirst weigh means rs rs₁ f f' s tr r → PopsFirst weigh means rs rs' f f' s tr r
+  popped_at {rs} {f = f} {f'} {s} {tr} {r} is p = subst (λ q. PopsFirst weigh means rs q f f' s tr r) is p

@@ -5,7 +5,7 @@ use Rattle.std.specs.declared.option.Option.{Option}
 use Rattle.std.specs.declared.option.Option.TheVariants.{None, Some}
 use Rattle.std.specs.declared.result.Result.{Result}
 use Rattle.std.specs.declared.result.Result.TheVariants.{Ok}
-use Rattle.tree.specs.Words.{Unsound, Link, To, Digit, Tree, Empty, Deep, Record, Free, Level, Side}
+use Rattle.tree.specs.Words.{Unsound, Link, Digit, Tree, Empty, Deep, Record, Free, Level, Side}
 use Rattle.slots.specs.Ghost.{Twig, Arm, a1, a2, a3, a4, Finger, nil, one, deep, same, occ_list, head_of, none, root, digit_of, part_of, tree_of, rows_twig, rows_arm, rows_part, rows, levels, Full, occ_twig, occ_arm, occ_part, occ, FitTwig, FitArm, FitPart, Fit, Chain, Off, Calm}
 use Rattle.slots.specs.Sides.{pick, ends}
 use Rattle.slots.specs.Values.{mean, wt, value_in, parts_in, node_of}
@@ -19,7 +19,7 @@ module _ {R V : Type 0} where
 
   -- a node was read and its slot given back
   pub record NodeTaken (rs rs' : List (Record R V)) (f f' : Link) (n : ℕ) (r : Result Digit Unsound) : Type 0 where
-    pub takes : (d : Digit) → parts_in (get_or rs n none) ≡ Ok d → n < length rs → (r ≡ Ok d) × (f' ≡ To n) × (rs' ≡ set rs n (Free f))
+    pub takes : (d : Digit) → parts_in (get_or rs n none) ≡ Ok d → n < length rs → (r ≡ Ok d) × (f' ≡ Some n) × (rs' ≡ set rs n (Free f))
 
   -- how far a digit is above two twigs
   abbrev pub fill : Arm R V → ℕ
@@ -40,7 +40,7 @@ module _ {R I V : Type 0} (weigh : I → ℕ) (means : List I → V) where
         → wt weigh items (ends side xs ys) ≤ heaviest → r ≡ Ok (mean means items (ends side xs ys))
 
   pub record NodePut (rs rs' : List (Record R V)) (f f' : Link) (d : Digit) (r : Result ℕ Unsound) : Type 0 where
-    pub puts : (items : R → List I) (A : Arm R V) (c : Record R V) (k n : ℕ) (is : List ℕ) → digit_of A ≡ d → f ≡ To n → Chain rs (n ∷ is) → FitArm (mean means items) rs A k → wt weigh items (rows_arm A) ≤ heaviest
+    pub puts : (items : R → List I) (A : Arm R V) (c : Record R V) (k n : ℕ) (is : List ℕ) → digit_of A ≡ d → f ≡ Some n → Chain rs (n ∷ is) → FitArm (mean means items) rs A k → wt weigh items (rows_arm A) ≤ heaviest
         → node_of d (mean means items (rows_arm A)) ≡ Ok c → (r ≡ Ok n) × (f' ≡ head_of is) × (rs' ≡ set rs n c)
 
   -- A tree of the rows T, whose twigs are k high, was made from slots that τ counts; js are the new leaves and nodes.

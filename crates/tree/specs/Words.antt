@@ -1,7 +1,5 @@
 -- The words of slots and lists, under one roof.
 pub use Rattle.slots.specs.declared.records.Unsound.{Unsound}
-pub use Rattle.slots.specs.declared.records.Link.{Link}
-pub use Rattle.slots.specs.declared.records.Link.TheVariants.{End, To}
 pub use Rattle.slots.specs.declared.records.Digit.{Digit}
 pub use Rattle.slots.specs.declared.records.Digit.TheVariants.{One, Two, Three, Four}
 pub use Rattle.slots.specs.declared.records.Tree.{Tree}
@@ -14,4 +12,4 @@ pub use Rattle.slots.specs.declared.records.Grown.{Grown}
 pub use Rattle.slots.specs.declared.records.Grown.TheVariants.{Room, Over}
 pub use Rattle.slots.specs.declared.records.Spine.{Spine}
 pub use Rattle.slots.specs.declared.records.Peel.{Peel}
-pub use Rattle.slots.specs.Words.{unsound}
+pub use Rattle.slots.specs.Words.{unsound, Link}

@@ -1,26 +1,26 @@
 // Nodes and levels written into slots.
-ghost use Rattle.std.specs.Prelude.{◌≡◌};
+ghost use Rattle.std.specs.Prelude.{◌≡◌, Ok};
 ghost use Rattle.slots.specs.Sides.{pick as picked};
 ghost use Rattle.tree.specs.Post.{JoinedEnds, LevelPut, NodePut, NodeTaken, Settled, Replanted, Planted};
 
 use measures::Measure;
-use slots::arena::{give_slot, parts_at, take_slot, write_slot};
-use slots::digits::{node, pick};
+use slots::arena::{Arena, give_slot, write_slot};
+use slots::reading::parts_at;
 use slots::records::{Digit, Link, Record, Side, Tree, Unsound};
-use slots::values::{digit_value, join_at, level_value, value_at};
+use slots::values::{join_on, level_value, value_at};
 
 // The value of slot x, joined at that side to the value of slot i.
 pub fn join_ends<R: Copy, M: Measure>(
-    slots: &[Record<R, M::Value>],
+    arena: &Arena<R, M>,
     side: Side,
     x: u16,
     i: u16,
 ) -> Result<M::Value, Unsound>
-    ensures { JoinedEnds M.Item.Weigh.weight M.Measure.means slots.now side x i result }
+    ensures { JoinedEnds M.Item.Weigh.weight M.Measure.means arena.now.slots.now side x i result }
 {
     match side {
-        Side::Front => join_at::<R, M>(slots, value_at(slots, x), i),
-        Side::Back => join_at::<R, M>(slots, value_at(slots, i), x),
+        Side::Front => join_on::<R, M>(arena.slots, &value_at(arena.slots, x)?, i),
+        Side::Back => join_on::<R, M>(arena.slots, &value_at(arena.slots, i)?, x),
     }
 }
 
@@ -32,38 +32,29 @@ pub fn put_level<R: Copy, V: Copy>(
     near: Digit,
     middle: Tree,
     far: Digit,
-    value: Result<V, Unsound>,
+    value: V,
 ) -> Result<Tree, Unsound>
-    ensures { LevelPut slots.old slots.new i (picked side near far) middle (picked side far near) value result }
+    ensures { LevelPut slots.old slots.new i (picked side near far) middle (picked side far near) (Ok value) result }
 {
-    let value = value?;
-    let front = pick(side, near, far);
-    let back = pick(side, far, near);
-    write_slot(
-        slots,
-        i,
-        Record::Level {
-            front,
-            middle,
-            back,
-            value,
-        },
-    )?;
+    let level = Record::Level {
+        front: side.pick(near, far),
+        middle,
+        back: side.pick(far, near),
+        value,
+    };
+    write_slot(slots, i, level)?;
     Ok(Tree::Deep(i))
 }
 
 // A node of two or three slots, in the first slot of the chain.
-pub fn put_node<R: Copy, M: Measure>(
-    slots: &mut [Record<R, M::Value>],
-    free: &mut Link,
-    parts: Digit,
-) -> Result<u16, Unsound>
-    ensures { NodePut M.Item.Weigh.weight M.Measure.means slots.old slots.new free.old free.new parts result }
+pub fn put_node<R: Copy, M: Measure>(arena: &mut Arena<R, M>, parts: Digit) -> Result<u16, Unsound>
+    ensures same { arena.new.slots.ghost_name ≡ arena.old.slots.ghost_name }
+    ensures put { NodePut M.Item.Weigh.weight M.Measure.means arena.old.slots.now arena.new.slots.now arena.old.free arena.new.free parts result }
 {
-    let value = digit_value::<R, M>(slots, parts)?;
-    let record = node(parts, value)?;
-    let i = take_slot(slots, free)?;
-    write_slot(slots, i, record)?;
+    let value = arena.digit_value(parts)?;
+    let node = parts.node(value)?;
+    let i = arena.take()?;
+    write_slot(arena.slots, i, node)?;
     Ok(i)
 }
 
@@ -91,26 +82,26 @@ pub fn settle<R: Copy, M: Measure>(
 ) -> Result<Tree, Unsound>
     ensures { Settled M.Item.Weigh.weight M.Measure.means slots.old slots.new side i near middle far result }
 {
-    let value = level_value::<R, M>(slots, pick(side, near, far), middle, pick(side, far, near));
+    let value = level_value::<R, M>(slots, side.pick(near, far), middle, side.pick(far, near))?;
     put_level(slots, side, i, near, middle, far, value)
 }
 
 // The tree of a digit's slots, in slot i; one slot alone needs no level, and i is given back.
 pub fn replant<R: Copy, M: Measure>(
-    slots: &mut [Record<R, M::Value>],
-    free: &mut Link,
+    arena: &mut Arena<R, M>,
     i: u16,
     digit: Digit,
 ) -> Result<Tree, Unsound>
-    ensures { Replanted M.Item.Weigh.weight M.Measure.means slots.old slots.new free.old free.new i digit result }
+    ensures same { arena.new.slots.ghost_name ≡ arena.old.slots.ghost_name }
+    ensures grown { Replanted M.Item.Weigh.weight M.Measure.means arena.old.slots.now arena.new.slots.now arena.old.free arena.new.free i digit result }
 {
     match digit {
         Digit::One(a) => {
-            give_slot(slots, free, i)?;
+            arena.give(i)?;
             Ok(Tree::Single(a))
         }
         Digit::Two(a, b) => settle::<R, M>(
-            slots,
+            arena.slots,
             Side::Front,
             i,
             Digit::One(a),
@@ -118,7 +109,7 @@ pub fn replant<R: Copy, M: Measure>(
             Digit::One(b),
         ),
         Digit::Three(a, b, c) => settle::<R, M>(
-            slots,
+            arena.slots,
             Side::Front,
             i,
             Digit::Two(a, b),
@@ -126,7 +117,7 @@ pub fn replant<R: Copy, M: Measure>(
             Digit::One(c),
         ),
         Digit::Four(a, b, c, d) => settle::<R, M>(
-            slots,
+            arena.slots,
             Side::Front,
             i,
             Digit::Two(a, b),
@@ -138,17 +129,17 @@ pub fn replant<R: Copy, M: Measure>(
 
 // The tree of up to four slots.
 pub fn plant<R: Copy, M: Measure>(
-    slots: &mut [Record<R, M::Value>],
-    free: &mut Link,
+    arena: &mut Arena<R, M>,
     part: Option<Digit>,
 ) -> Result<Tree, Unsound>
-    ensures { Planted M.Item.Weigh.weight M.Measure.means slots.old slots.new free.old free.new part result }
+    ensures same { arena.new.slots.ghost_name ≡ arena.old.slots.ghost_name }
+    ensures planted { Planted M.Item.Weigh.weight M.Measure.means arena.old.slots.now arena.new.slots.now arena.old.free arena.new.free part result }
 {
     match part {
         None => Ok(Tree::Empty),
         Some(digit) => {
-            let i = take_slot(slots, free)?;
-            replant::<R, M>(slots, free, i, digit)
+            let i = arena.take()?;
+            replant(arena, i, digit)
         }
     }
 }

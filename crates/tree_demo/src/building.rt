@@ -5,7 +5,8 @@ use measures::Measure;
 use measures::mark_totals::{MarkRow, MarkTotals};
 use measures::probes::MarkFrom;
 use seek::search::search;
-use slots::arena::{put_leaf, row_at};
+use slots::arena::put_leaf;
+use slots::reading::row_at;
 use slots::records::{Digit, Link, Side, Tree, Unsound};
 
 fn push(
@@ -43,18 +44,14 @@ pub(crate) fn labels_in_order(
         let probe = MarkFrom {
             at: u32::from(label) + 1,
         };
-        match search::<MarkRow, MarkTotals, MarkFrom>(slots, tree, &probe, &mut place)? {
-            Some(i) => {
-                let row = row_at(slots, i)?;
-                if row.label != label || label == size {
-                    return Ok(false);
-                }
-            }
-            None => {
-                if label < size {
-                    return Ok(false);
-                }
-            }
+        let found = match search::<MarkRow, MarkTotals, MarkFrom>(
+            slots, tree, &probe, &mut place,
+        )? {
+            Some(i) => Some(row_at(slots, i)?.label),
+            None => None,
+        };
+        if found != (label < size).then_some(label) {
+            return Ok(false);
         }
     }
     Ok(true)

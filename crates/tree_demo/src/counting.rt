@@ -1,60 +1,45 @@
 // What can be counted in slots.
 use crate::MarkRecord;
+use measures::Measure;
 use measures::mark_totals::MarkTotals;
-use slots::arena::{read, spine_at};
+use slots::reading::{read, spine_at};
 use slots::records::{Link, Record, Tree};
 
 // How many slots the chain has; one that does not end counts as all.
-pub(crate) fn chain_length(slots: &[MarkRecord], free: Link) -> u32 {
+pub(crate) fn chain_length(slots: &[MarkRecord], free: Link) -> usize {
     let mut next = free;
-    let mut count = 0u32;
-    for _ in 0..slots.len() {
-        match next {
-            Link::End => return count,
-            Link::To(i) => match read(slots, i) {
-                Record::Free(link) => {
-                    next = link;
-                    count = count.saturating_add(1);
-                }
-                _ => return count,
-            },
-        }
+    for count in 0..slots.len() {
+        let Some(i) = next else {
+            return count;
+        };
+        let Record::Free(link) = read(slots, i) else {
+            return count;
+        };
+        next = link;
     }
-    count
+    slots.len()
 }
 
-pub(crate) fn slots_in_use(slots: &[MarkRecord]) -> u32 {
-    let mut count = 0u32;
-    for i in 0..slots.len() {
-        match &slots[i] {
-            Record::Free(_) => {}
-            _ => count = count.saturating_add(1),
-        }
-    }
-    count
+pub(crate) fn slots_in_use(slots: &[MarkRecord]) -> usize {
+    slots
+        .iter()
+        .filter(|slot| !matches!(slot, Record::Free(_)))
+        .count()
 }
 
 // How many levels a tree has, up to 16.
 pub(crate) fn levels(slots: &[MarkRecord], tree: Tree) -> u32 {
     let mut below = tree;
-    let mut count = 0u32;
-    for _ in 0..16 {
-        match below {
-            Tree::Deep(i) => match spine_at(slots, i) {
-                Ok(level) => {
-                    below = level.middle;
-                    count = count.saturating_add(1);
-                }
-                Err(_) => return count,
-            },
-            _ => return count,
-        }
+    for count in 0..16 {
+        let Tree::Deep(i) = below else {
+            return count;
+        };
+        let Ok(level) = spine_at(slots, i) else {
+            return count;
+        };
+        below = level.middle;
     }
-    count
-}
-
-fn same_value(a: &MarkTotals, b: &MarkTotals) -> bool {
-    a.gaps == b.gaps && a.count == b.count
+    16
 }
 
 // Whether a leaf or node lies here that the slot did not hold before.
@@ -63,7 +48,8 @@ fn is_new(old: &MarkRecord, new: &MarkRecord) -> bool {
         Record::Free(_) => false,
         Record::Level { .. } => false,
         Record::Leaf { row, value } => match old {
-            Record::Leaf { row: r, value: v } => !(row.label == r.label && same_value(value, v)),
+            Record::Leaf { row: r, value: v } => !(row.label == r.label
+                && MarkTotals::same(value, v)),
             _ => true,
         },
         Record::Node2 { a, b, value } => match old {
@@ -71,7 +57,7 @@ fn is_new(old: &MarkRecord, new: &MarkRecord) -> bool {
                 a: x,
                 b: y,
                 value: v,
-            } => !(*a == *x && *b == *y && same_value(value, v)),
+            } => !(*a == *x && *b == *y && MarkTotals::same(value, v)),
             _ => true,
         },
         Record::Node3 { a, b, c, value } => match old {
@@ -80,19 +66,17 @@ fn is_new(old: &MarkRecord, new: &MarkRecord) -> bool {
                 b: y,
                 c: z,
                 value: v,
-            } => !(*a == *x && *b == *y && *c == *z && same_value(value, v)),
+            } => !(*a == *x && *b == *y && *c == *z && MarkTotals::same(value, v)),
             _ => true,
         },
     }
 }
 
 // The leaves and nodes that were not there before.
-pub(crate) fn new_records(before: &[MarkRecord], after: &[MarkRecord]) -> u32 {
-    let mut count = 0u32;
-    for i in 0..before.len().min(after.len()) {
-        if is_new(&before[i], &after[i]) {
-            count = count.saturating_add(1);
-        }
-    }
-    count
+pub(crate) fn new_records(before: &[MarkRecord], after: &[MarkRecord]) -> usize {
+    before
+        .iter()
+        .zip(after)
+        .filter(|(old, new)| is_new(old, new))
+        .count()
 }

@@ -4,10 +4,12 @@
 use building::{build, labels_in_order};
 use concat::joins::concat;
 use counting::{chain_length, levels, new_records, slots_in_use};
+use measures::Measure;
 use measures::mark_totals::{MarkRow, MarkTotals};
 use measures::probes::MarkFrom;
-use release_count::release;
-use slots::arena::{lay_out, row_at};
+use release::release;
+use slots::arena::lay_out;
+use slots::reading::row_at;
 use slots::records::{Digit, Link, Record, Side, Tree, Unsound};
 use split::descent::split;
 use std::io;
@@ -28,7 +30,7 @@ pub struct Seen {
     // places at which the wrong element was found
     pub wrong: u32,
     // the most new leaves and nodes after one concatenation, and the levels of its result
-    pub new: u32,
+    pub new: usize,
     pub levels: u32,
 }
 
@@ -39,28 +41,23 @@ fn split_and_concat(
     tree: Tree,
     number: u16,
 ) -> Result<Option<Tree>, Unsound> {
-    let mut place = MarkTotals { gaps: 0, count: 0 };
+    let mut place = MarkTotals::empty();
     let probe = MarkFrom {
         at: u32::from(number) + 1,
     };
-    match split::<MarkRow, MarkTotals, MarkFrom>(slots, free, tree, &probe, &mut place)? {
-        None => Ok(None),
-        Some(halves) => {
-            let row = row_at(slots, halves.at)?;
-            if row.label != number || place.count != u32::from(number) {
-                return Ok(None);
-            }
-            let part = Some(Digit::One(halves.at));
-            let whole = concat::<MarkRow, MarkTotals>(
-                slots,
-                free,
-                halves.left,
-                part,
-                halves.right,
-            )?;
-            Ok(Some(whole))
-        }
+    let Some(halves) = split::<MarkRow, MarkTotals, MarkFrom>(
+        slots, free, tree, &probe, &mut place,
+    )?
+    else {
+        return Ok(None);
+    };
+    let row = row_at(slots, halves.at)?;
+    if row.label != number || place.count != u32::from(number) {
+        return Ok(None);
     }
+    let part = Some(Digit::One(halves.at));
+    let whole = concat::<MarkRow, MarkTotals>(slots, free, halves.left, part, halves.right)?;
+    Ok(Some(whole))
 }
 
 fn at_every_place(
@@ -94,24 +91,20 @@ fn at_every_place(
 }
 
 // Takes elements off at the front and at the back in turn, and puts their slots back; how many there were.
-fn drain(slots: &mut [MarkRecord], free: &mut Link, mut tree: Tree) -> Result<u32, Unsound> {
-    let mut count = 0u32;
+fn drain(slots: &mut [MarkRecord], free: &mut Link, mut tree: Tree) -> Result<usize, Unsound> {
     for turn in 0..SLOTS {
         let side = if turn % 2 == 0 {
             Side::Front
         } else {
             Side::Back
         };
-        match pop::<MarkRow, MarkTotals>(slots, free, side, tree)? {
-            None => return Ok(count),
-            Some(popped) => {
-                release(slots, free, Tree::Single(popped.slot))?;
-                tree = popped.rest;
-                count = count.saturating_add(1);
-            }
-        }
+        let Some(popped) = pop::<MarkRow, MarkTotals>(slots, free, side, tree)? else {
+            return Ok(turn);
+        };
+        release(slots, free, Tree::Single(popped.slot))?;
+        tree = popped.rest;
     }
-    Ok(count)
+    Ok(SLOTS)
 }
 
 // How a tree of one size fared.
@@ -119,9 +112,9 @@ fn drain(slots: &mut [MarkRecord], free: &mut Link, mut tree: Tree) -> Result<u3
 pub struct Outcome {
     pub seen: Seen,
     pub in_order: bool,
-    pub used: u32,
-    pub drained: u32,
-    pub free: u32,
+    pub used: usize,
+    pub drained: usize,
+    pub free: usize,
 }
 
 fn exercise(
@@ -159,8 +152,8 @@ fn tell(rt: &HostRuntime, size: u16, outcome: Outcome) -> io::Result<()> {
 
 fn main(rt: HostRuntime) -> anyhow::Result<()> {
     let heap = rt.alloc();
-    let mut slots = vec![in heap; Record::Free(Link::End); SLOTS]?;
-    let mut before = vec![in heap; Record::Free(Link::End); SLOTS]?;
+    let mut slots = vec![in heap; Record::Free(None); SLOTS]?;
+    let mut before = vec![in heap; Record::Free(None); SLOTS]?;
     let sizes = [
         1, 2, 3, 4, 5, 6, 7, 8, 9, 10, 12, 16, 21, 30, 33, 62, 100, 255, 510, 1000, 2046, 4094,
     ];

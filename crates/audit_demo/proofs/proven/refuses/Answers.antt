@@ -5,5 +5,5 @@ use Rattle.audit_demo.proofs.proven.refuses.Goals as goal
 pub returns-in-Ok : goal.returns-in-Ok
 returns-in-Ok c = absurd (not_sound c.audit.ensures c.in-Ok.is)
 
-pub returns-in-ShortScratch : goal.returns-in-ShortScratch
-returns-in-ShortScratch c = absurd (not_short c.audit.ensures (c.in-Err.is ∙ ap Err c.in-ShortScratch.is))
+pub returns-in-Err-ShortScratch : goal.returns-in-Err-ShortScratch
+returns-in-Err-ShortScratch c = absurd (not_short c.audit.ensures (c.in-Err-ShortScratch.is ∙ ap Err c.in-Err-ShortScratch.field-0-is))

@@ -1,10 +1,8 @@
-use Rattle.std.proofs.Common.{sym, subst}
-use Rattle.calls.specs.Calls.{plain_call}
 use Rattle.calls.proofs.TextEdits.{of_text}
 use Rattle.calls.proofs.editing.edit.Goals as goal
 
 pub returns-in-Whole : goal.returns-in-Whole
-returns-in-Whole g c kind z = of_text g.A.Measure.means g.S.Store.bytes g.S.Store.capacity g.S.Store.reads c.in-Whole.is (c.edit_whole.ensures kind z)
+returns-in-Whole g c kind z = of_text g.A.Measure.means g.S.Store.contents c.in-Whole.is (c.edit_whole.ensures kind z)
 
 pub returns-in-Held : goal.returns-in-Held
-returns-in-Held g c kind z = of_text g.A.Measure.means g.S.Store.bytes g.S.Store.capacity g.S.Store.reads c.in-Held.is (c.edit_held.ensures kind z)
+returns-in-Held g c kind z = of_text g.A.Measure.means g.S.Store.contents c.in-Held.is (c.edit_held.ensures kind z)

@@ -1,4 +1,4 @@
-use Rattle.std.proofs.Common.{Ok, refl}
+use Rattle.std.proofs.Common.{refl}
 use Rattle.plain.specs.Lists.{slice}
 use Rattle.plain.specs.Machine.{text}
 use Rattle.plain.specs.Questions.{line_of_offset, start_of_line, token_of_offset, token_of_number, bracket_of_offset, mark_of_offset, summary}
@@ -24,13 +24,13 @@ pub returns-in_err-bracket_at-in-BracketAt : goal.returns-in_err-bracket_at-in-B
 returns-in_err-bracket_at-in-BracketAt g c kind = answers (λ m. bracket_of_offset (text m) c.in-BracketAt.at) answer.Bracket c.in-BracketAt.is (λ m. refl) (passed_on answer.Bracket _ _ c.from_residual-in_err-bracket_at-in-BracketAt.ensures.1) (c.in_err-bracket_at-in-BracketAt.ensures (watched_of c.args.marks.now))
 
 pub returns-in_err-mark_from-in-MarkFrom : goal.returns-in_err-mark_from-in-MarkFrom
-returns-in_err-mark_from-in-MarkFrom g c kind = answers (λ m. mark_of_offset m.marks c.in-MarkFrom.at) answer.Mark c.in-MarkFrom.is (λ m. refl) (passed_on answer.Mark _ _ c.from_residual-in_err-mark_from-in-MarkFrom.ensures.1) (unread (c.in_err-mark_from-in-MarkFrom.ensures (g.S.Store.bytes c.args.store.now)))
+returns-in_err-mark_from-in-MarkFrom g c kind = answers (λ m. mark_of_offset m.marks c.in-MarkFrom.at) answer.Mark c.in-MarkFrom.is (λ m. refl) (passed_on answer.Mark _ _ c.from_residual-in_err-mark_from-in-MarkFrom.ensures.1) (unread (c.in_err-mark_from-in-MarkFrom.ensures (g.S.Store.contents c.args.store.now).bytes))
 
 pub returns-in_err-range-in-Range : goal.returns-in_err-range-in-Range
 returns-in_err-range-in-Range g c kind = answers (λ m. g.A.Measure.means (slice (text m) c.in-Range.from c.in-Range.to)) answer.Range c.in-Range.is (λ m. refl) (passed_on answer.Range _ _ c.from_residual-in_err-range-in-Range.ensures.1) (c.in_err-range-in-Range.ensures (watched_of c.args.marks.now))
 
 pub returns-in_err-whole-in-Whole : goal.returns-in_err-whole-in-Whole
-returns-in_err-whole-in-Whole g c kind = answers (λ m. summary (text m)) answer.Whole c.in-Whole.is (λ m. refl) (passed_on answer.Whole _ _ c.from_residual-in_err-whole-in-Whole.ensures.1) (unread (c.in_err-whole-in-Whole.ensures (g.S.Store.bytes c.args.store.now) (watched_of c.args.marks.now)))
+returns-in_err-whole-in-Whole g c kind = answers (λ m. summary (text m)) answer.Whole c.in-Whole.is (λ m. refl) (passed_on answer.Whole _ _ c.from_residual-in_err-whole-in-Whole.ensures.1) (unread (c.in_err-whole-in-Whole.ensures (g.S.Store.contents c.args.store.now).bytes (watched_of c.args.marks.now)))
 
 pub returns-in_ok-line_of-in-LineOf : goal.returns-in_ok-line_of-in-LineOf
 returns-in_ok-line_of-in-LineOf g c kind = answers (λ m. line_of_offset (text m) c.in-LineOf.at) answer.Line c.in-LineOf.is (λ m. refl) refl (c.in_ok-line_of-in-LineOf.ensures (watched_of c.args.marks.now))
@@ -48,13 +48,13 @@ pub returns-in_ok-bracket_at-in-BracketAt : goal.returns-in_ok-bracket_at-in-Bra
 returns-in_ok-bracket_at-in-BracketAt g c kind = answers (λ m. bracket_of_offset (text m) c.in-BracketAt.at) answer.Bracket c.in-BracketAt.is (λ m. refl) refl (c.in_ok-bracket_at-in-BracketAt.ensures (watched_of c.args.marks.now))
 
 pub returns-in_ok-mark_from-in-MarkFrom : goal.returns-in_ok-mark_from-in-MarkFrom
-returns-in_ok-mark_from-in-MarkFrom g c kind = answers (λ m. mark_of_offset m.marks c.in-MarkFrom.at) answer.Mark c.in-MarkFrom.is (λ m. refl) refl (unread (c.in_ok-mark_from-in-MarkFrom.ensures (g.S.Store.bytes c.args.store.now)))
+returns-in_ok-mark_from-in-MarkFrom g c kind = answers (λ m. mark_of_offset m.marks c.in-MarkFrom.at) answer.Mark c.in-MarkFrom.is (λ m. refl) refl (unread (c.in_ok-mark_from-in-MarkFrom.ensures (g.S.Store.contents c.args.store.now).bytes))
 
 pub returns-in_ok-range-in-Range : goal.returns-in_ok-range-in-Range
 returns-in_ok-range-in-Range g c kind = answers (λ m. g.A.Measure.means (slice (text m) c.in-Range.from c.in-Range.to)) answer.Range c.in-Range.is (λ m. refl) refl (c.in_ok-range-in-Range.ensures (watched_of c.args.marks.now))
 
 pub returns-in_ok-whole-in-Whole : goal.returns-in_ok-whole-in-Whole
-returns-in_ok-whole-in-Whole g c kind = answers (λ m. summary (text m)) answer.Whole c.in-Whole.is (λ m. refl) refl (unread (c.in_ok-whole-in-Whole.ensures (g.S.Store.bytes c.args.store.now) (watched_of c.args.marks.now)))
+returns-in_ok-whole-in-Whole g c kind = answers (λ m. summary (text m)) answer.Whole c.in-Whole.is (λ m. refl) refl (unread (c.in_ok-whole-in-Whole.ensures (g.S.Store.contents c.args.store.now).bytes (watched_of c.args.marks.now)))
 
 pub returns-in_default : goal.returns-in_default
 returns-in_default g c kind =

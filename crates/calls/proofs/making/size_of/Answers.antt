@@ -1,8 +1,6 @@
-use Rattle.calls.proofs.Sizes.{size_ok, size_err}
+use Rattle.std.proofs.Common.{rules}
+use Rattle.calls.proofs.Sizes.{size_told}
 use Rattle.calls.proofs.making.size_of.Goals as goal
 
-pub returns-in-Ok : goal.returns-in-Ok
-returns-in-Ok g c = size_ok c.in-Ok.ensures
-
-pub returns-in-Err : goal.returns-in-Err
-returns-in-Err g c = size_err c.in-Err.ensures
+pub returns : goal.returns
+returns g c = size_told c.whole.ensures (search rules)

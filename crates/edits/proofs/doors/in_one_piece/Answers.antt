@@ -1,11 +1,11 @@
 use Rattle.edits.proofs.Doorsteps.{one_no_first, one_no_second, one_told}
 use Rattle.edits.proofs.doors.in_one_piece.Goals as goal
 
-pub returns-in-Ok-edge_at : goal.returns-in-Ok-edge_at
-returns-in-Ok-edge_at g c = one_told c.in-Ok.ensures c.in-Ok-edge_at.ensures c.both_inside.ensures
+pub returns-in_err-first : goal.returns-in_err-first
+returns-in_err-first g c = one_no_first c.edge_at.ensures c.in_err-first.was
 
-pub returns-in-Err-edge_at : goal.returns-in-Err-edge_at
-returns-in-Err-edge_at g c = one_no_second c.in-Err-edge_at.ensures
+pub returns-in_err-second : goal.returns-in_err-second
+returns-in_err-second g c = one_no_second c.edge_at.ensures c.edge_at-2.ensures c.in_err-second.was
 
-pub returns-in-Err : goal.returns-in-Err
-returns-in-Err g c = one_no_first c.in-Err.ensures
+pub returns : goal.returns
+returns g c = one_told c.edge_at.ensures c.in_ok-first.was c.edge_at-2.ensures c.in_ok-second.was c.both_inside.ensures

@@ -5,4 +5,4 @@ pub returns-in_err-spot : goal.returns-in_err-spot
 returns-in_err-spot g c = door_no_spot c.spot_at.ensures c.in_err-spot.was
 
 pub returns : goal.returns
-returns g c = paste_told c.spot_at.ensures c.in_ok-spot.was c.limit.ensures c.saturating_add-all.ensures c.decide_paste.ensures
+returns g c = paste_told c.spot_at.ensures c.in_ok-spot.was c.limit.ensures (rw c.from.ensures at c.saturating_add-all.ensures) c.decide_paste.ensures

@@ -1,8 +1,13 @@
+use Rattle.std.proofs.Common.{rules}
+use Rattle.head_edits.proofs.Deciding.{kept, not_kept}
 use Rattle.head_edits.proofs.Removals.{cut_shut, cut_made}
 use Rattle.head_edits.proofs.cutting.cut.Goals as goal
 
-pub returns-in-Err : goal.returns-in-Err
-returns-in-Err g c = cut_shut c.cut_door.ensures c.in-Err.is
+pub returns-in_err-pieces : goal.returns-in_err-pieces
+returns-in_err-pieces g c = cut_shut c.cut_door.ensures c.in_err-pieces.was (search rules)
 
-pub returns-in-Ok : goal.returns-in-Ok
-returns-in-Ok g c = cut_made c.cut_door.ensures c.in-Ok.is c.cut_all-made.ensures c.keep.ensures
+pub returns-in_err-head : goal.returns-in_err-head
+returns-in_err-head g c = cut_made c.cut_door.ensures c.in_ok-pieces.was c.cut_all.ensures (not_kept c.in_err-head.was)
+
+pub returns : goal.returns
+returns g c = cut_made c.cut_door.ensures c.in_ok-pieces.was c.cut_all.ensures (kept c.in_ok-head.was)

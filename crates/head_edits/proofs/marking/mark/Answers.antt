@@ -1,11 +1,18 @@
-use Rattle.head_edits.proofs.Markings.{mark_no_size, mark_shut, mark_made}
+use Rattle.std.proofs.Common.{rules, ap}
+use Rattle.head_edits.proofs.Deciding.{kept, not_kept}
+use Rattle.head_edits.proofs.Markings.{marked, mark_no_size, mark_shut, mark_made}
 use Rattle.head_edits.proofs.marking.mark.Goals as goal
 
-pub returns-in-Err : goal.returns-in-Err
-returns-in-Err g c = λ B k. mark_no_size B k c.args.at c.args.label c.size_of.ensures c.in-Err.is
+pub returns-in_err-size : goal.returns-in_err-size
+returns-in_err-size g c = λ s. mark_no_size s c.args.at c.args.label c.size_of.ensures c.in_err-size.was
 
-pub returns-in-Err-decide_mark : goal.returns-in-Err-decide_mark
-returns-in-Err-decide_mark g c = λ B k. mark_shut B k c.args.at c.args.label c.size_of.ensures c.in-Ok.is c.limit.ensures c.decide_mark.ensures c.in-Err-decide_mark.is
+pub returns-in_err-decide_mark : goal.returns-in_err-decide_mark
+returns-in_err-decide_mark g c = λ s. mark_shut s c.args.at c.args.label c.size_of.ensures c.in_ok-size.was c.limit.ensures c.decide_mark.ensures c.in_err-decide_mark.was (search rules)
 
-pub returns-in-Ok-decide_mark : goal.returns-in-Ok-decide_mark
-returns-in-Ok-decide_mark g c = λ B k. mark_made B k c.args.at c.args.label c.size_of.ensures c.in-Ok.is c.limit.ensures c.decide_mark.ensures c.in-Ok-decide_mark.is c.put_mark-made.ensures c.with_mark.ensures c.keep.ensures
+pub returns-in_err-tree : goal.returns-in_err-tree
+returns-in_err-tree g c = λ s. mark_made s c.args.at c.args.label c.size_of.ensures c.in_ok-size.was c.limit.ensures c.decide_mark.ensures c.in_ok-decide_mark.was c.put_mark.ensures
+    (not_kept (ap (λ u. marked c.args.head.now u c.put_mark.new.free) c.in_err-tree.was))
+
+pub returns : goal.returns
+returns g c = λ s. rw c.saturating_add.ensures (mark_made s c.args.at c.args.label c.size_of.ensures c.in_ok-size.was c.limit.ensures c.decide_mark.ensures c.in_ok-decide_mark.was c.put_mark.ensures
+    (kept (ap (λ u. marked c.args.head.now u c.put_mark.new.free) c.in_ok-tree.was)))

@@ -1,8 +1,13 @@
+use Rattle.std.proofs.Common.{rules}
+use Rattle.head_edits.proofs.Deciding.{kept, not_kept}
 use Rattle.head_edits.proofs.Pastings.{paste_shut, paste_made}
 use Rattle.head_edits.proofs.pasting.paste.Goals as goal
 
-pub returns-in-Err : goal.returns-in-Err
-returns-in-Err g c = paste_shut c.paste_door.ensures c.in-Err.is
+pub returns-in_err-pieces : goal.returns-in_err-pieces
+returns-in_err-pieces g c = paste_shut c.paste_door.ensures c.in_err-pieces.was (search rules)
 
-pub returns-in-Ok : goal.returns-in-Ok
-returns-in-Ok g c = paste_made c.paste_door.ensures c.in-Ok.is c.paste_all-made.ensures c.keep.ensures
+pub returns-in_err-head : goal.returns-in_err-head
+returns-in_err-head g c = paste_made c.paste_door.ensures c.in_ok-pieces.was c.paste_all.ensures (not_kept c.in_err-head.was)
+
+pub returns : goal.returns
+returns g c = paste_made c.paste_door.ensures c.in_ok-pieces.was c.paste_all.ensures (kept c.in_ok-head.was)

@@ -5,11 +5,11 @@ use Rattle.mark_moves.proofs.parting.part_marks.Goals as goal
 pub returns-in_err-found : goal.returns-in_err-found
 returns-in_err-found c = no_split c.args.at c.split.ensures c.in_err-found.was
 
-pub returns-in-None : goal.returns-in-None
-returns-in-None c = all_before c.args.at c.split.ensures (c.in_ok-found.was ∙ ap Ok c.in-None.is)
+pub returns-in_default : goal.returns-in_default
+returns-in_default c = all_before c.args.at c.split.ensures (c.in_ok-found.was ∙ ap Ok c.in_default.is)
 
-pub returns-in_err-row-in-Some : goal.returns-in_err-row-in-Some
-returns-in_err-row-in-Some c = no_row c.args.at c.split.ensures (c.in_ok-found.was ∙ ap Ok c.in-Some.is) c.row_at.ensures c.in_err-row-in-Some.was
+pub returns-in_err-row : goal.returns-in_err-row
+returns-in_err-row c = no_row c.args.at c.split.ensures (c.in_ok-found.was ∙ ap Ok c.in-Some.is) c.row_at.ensures c.in_err-row.was
 
-pub returns-in_ok-row-in-Some : goal.returns-in_ok-row-in-Some
-returns-in_ok-row-in-Some c = apart_at c.args.at c.split.ensures (c.in_ok-found.was ∙ ap Ok c.in-Some.is) c.row_at.ensures c.in_ok-row-in-Some.was
+pub returns : goal.returns
+returns c = apart_at c.args.at c.split.ensures (c.in_ok-found.was ∙ ap Ok c.in-Some.is) c.row_at.ensures c.in_ok-row.was

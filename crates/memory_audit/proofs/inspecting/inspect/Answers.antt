@@ -1,17 +1,21 @@
-use Rattle.memory_audit.proofs.Counting.{few_slots, many_slots, all_counted, other_count, no_trees}
+use Rattle.std.proofs.Common.{◌≤◌, length, rules, sym, ◌∙◌}
+use Rattle.memory_audit.proofs.Counting.{all_counted, other_count, no_trees}
 use Rattle.memory_audit.proofs.inspecting.inspect.Goals as goal
 
-pub returns-then-slots-lt-LEAST_SLOTS : goal.returns-then-slots-lt-LEAST_SLOTS
-returns-then-slots-lt-LEAST_SLOTS g c = few_slots c.if-slots-lt-LEAST_SLOTS.true
+pub returns-then-from-count : goal.returns-then-from-count
+returns-then-from-count g c =
+    let least : 130 ≤ length c.args.slots.now = search rules in
+    let most : length c.args.slots.now ≤ 8316 = search rules in
+    all_counted least most c.limit-most.ensures c.audit.ensures c.in-Ok.is (sym c.from-2.ensures ∙ c.if-from-count.true)
 
-pub returns-then-slots : goal.returns-then-slots
-returns-then-slots g c = many_slots c.if-slots.true
+pub returns-else-from-count : goal.returns-else-from-count
+returns-else-from-count g c =
+    let least : 130 ≤ length c.args.slots.now = search rules in
+    let most : length c.args.slots.now ≤ 8316 = search rules in
+    other_count least most c.limit-most.ensures c.audit.ensures c.in-Ok.is (λ is. c.if-from-count.false (c.from-2.ensures ∙ is))
 
-pub returns-then-elements-count : goal.returns-then-elements-count
-returns-then-elements-count g c = all_counted c.if-slots-lt-LEAST_SLOTS.false c.if-slots.false c.limit-most.ensures c.audit.ensures c.in-Ok.is c.if-elements-count.true
-
-pub returns-else-elements-count : goal.returns-else-elements-count
-returns-else-elements-count g c = other_count c.if-slots-lt-LEAST_SLOTS.false c.if-slots.false c.limit-most.ensures c.audit.ensures c.in-Ok.is c.if-elements-count.false
-
-pub returns-in-Err : goal.returns-in-Err
-returns-in-Err g c = no_trees c.if-slots-lt-LEAST_SLOTS.false c.if-slots.false c.limit-most.ensures c.audit.ensures c.in-Err.is
+pub returns-in_default : goal.returns-in_default
+returns-in_default g c =
+    let least : 130 ≤ length c.args.slots.now = search rules in
+    let most : length c.args.slots.now ≤ 8316 = search rules in
+    no_trees least most c.limit-most.ensures c.audit.ensures c.in_default.is

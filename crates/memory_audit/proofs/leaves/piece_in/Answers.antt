@@ -1,5 +1,5 @@
-use Rattle.memory_audit.proofs.PieceChecks.{in_store}
+use Rattle.memory_audit.proofs.PieceChecks.{inside_or_not}
 use Rattle.memory_audit.proofs.leaves.piece_in.Goals as goal
 
-pub returns-else-piece-len : goal.returns-else-piece-len
-returns-else-piece-len g c = in_store c.in-Some.ensures c.len.ensures c.if-piece-len.false
+pub returns : goal.returns
+returns g c = inside_or_not _ _ c.in_ok-piece.ensures c.from.ensures c.len.ensures c.then_some.ensures

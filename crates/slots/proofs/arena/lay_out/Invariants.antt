@@ -5,6 +5,3 @@ use Rattle.slots.proofs.arena.lay_out.Given as goal
 
 abbrev pub invariant-loop-i : goal.invariant-loop-i
 invariant-loop-i g l = Laying l.initial.slots l.slots l.free l.i (watched (length l.initial.slots))
-
-abbrev pub decreases-loop-i : goal.decreases-loop-i
-decreases-loop-i g l = l.i

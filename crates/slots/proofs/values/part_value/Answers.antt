@@ -1,4 +1,4 @@
-use Rattle.slots.proofs.Reading.{part_empty, part_full}
+use Rattle.slots.proofs.Joined.{part_empty, part_full}
 use Rattle.slots.proofs.values.part_value.Goals as goal
 
 pub returns-in-None : goal.returns-in-None

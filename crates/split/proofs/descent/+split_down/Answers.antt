@@ -37,14 +37,14 @@ returns-in-None g t c = split_none c.in-Deep.is c.spine_at.ensures c.in_ok-level
 pub returns-then-fuel-eq0 : goal.returns-then-fuel-eq0
 returns-then-fuel-eq0 g t c = split_no_fuel c.in-Deep.is c.spine_at.ensures c.in_ok-level-in-Deep.was c.pick.ensures c.in_ok-cut-in-Deep.was c.in_default.is c.reaches_tree.ensures c.if-fuel-eq0.true
 
+pub returns-in_err-split_down-in-Deep : goal.returns-in_err-split_down-in-Deep
+returns-in_err-split_down-in-Deep g t c = split_split_err c.in-Deep.is c.spine_at.ensures c.in_ok-level-in-Deep.was c.pick.ensures c.in_ok-cut-in-Deep.was c.in_default.is c.reaches_tree.ensures c.in_ok-reaches_tree-in-Deep.was c.if-not-branch.false c.split_down.ensures c.in_err-split_down-in-Deep.was
+
 pub returns-in_err-middle-in-Deep : goal.returns-in_err-middle-in-Deep
-returns-in_err-middle-in-Deep g t c = split_split_err c.in-Deep.is c.spine_at.ensures c.in_ok-level-in-Deep.was c.pick.ensures c.in_ok-cut-in-Deep.was c.in_default.is c.reaches_tree.ensures c.in_ok-reaches_tree-in-Deep.was c.if-not-branch.false c.split_down.ensures c.in_err-middle-in-Deep.was
+returns-in_err-middle-in-Deep g t c = split_split_none c.in-Deep.is c.spine_at.ensures c.in_ok-level-in-Deep.was c.pick.ensures c.in_ok-cut-in-Deep.was c.in_default.is c.reaches_tree.ensures c.in_ok-reaches_tree-in-Deep.was c.if-not-branch.false c.split_down.ensures c.in_ok-split_down-in-Deep.was c.in_err-middle-in-Deep.ensures.ok_part
 
-pub returns-in-None-2 : goal.returns-in-None-2
-returns-in-None-2 g t c = split_split_none c.in-Deep.is c.spine_at.ensures c.in_ok-level-in-Deep.was c.pick.ensures c.in_ok-cut-in-Deep.was c.in_default.is c.reaches_tree.ensures c.in_ok-reaches_tree-in-Deep.was c.if-not-branch.false c.split_down.ensures c.in_ok-middle-in-Deep.was c.in-None-2.is
+pub returns-in_err-inner-in-Deep : goal.returns-in_err-inner-in-Deep
+returns-in_err-inner-in-Deep g t c = split_open_err c.in-Deep.is c.spine_at.ensures c.in_ok-level-in-Deep.was c.pick.ensures c.in_ok-cut-in-Deep.was c.in_default.is c.reaches_tree.ensures c.in_ok-reaches_tree-in-Deep.was c.if-not-branch.false c.split_down.ensures c.in_ok-split_down-in-Deep.was c.in_ok-middle-in-Deep.ensures.ok_part c.reopen.ensures c.in_err-inner-in-Deep.was
 
-pub returns-in_err-inner-in-Some-3 : goal.returns-in_err-inner-in-Some-3
-returns-in_err-inner-in-Some-3 g t c = split_open_err c.in-Deep.is c.spine_at.ensures c.in_ok-level-in-Deep.was c.pick.ensures c.in_ok-cut-in-Deep.was c.in_default.is c.reaches_tree.ensures c.in_ok-reaches_tree-in-Deep.was c.if-not-branch.false c.split_down.ensures c.in_ok-middle-in-Deep.was c.in-Some-3.is c.reopen.ensures c.in_err-inner-in-Some-3.was
-
-pub returns-in_ok-inner-in-Some-3 : goal.returns-in_ok-inner-in-Some-3
-returns-in_ok-inner-in-Some-3 g t c = split_middle c.in-Deep.is c.spine_at.ensures c.in_ok-level-in-Deep.was c.pick.ensures c.in_ok-cut-in-Deep.was c.in_default.is c.reaches_tree.ensures c.in_ok-reaches_tree-in-Deep.was c.if-not-branch.false c.split_down.ensures c.in_ok-middle-in-Deep.was c.in-Some-3.is c.reopen.ensures c.in_ok-inner-in-Some-3.was c.rejoin.ensures
+pub returns-in_ok-inner-in-Deep : goal.returns-in_ok-inner-in-Deep
+returns-in_ok-inner-in-Deep g t c = split_middle c.in-Deep.is c.spine_at.ensures c.in_ok-level-in-Deep.was c.pick.ensures c.in_ok-cut-in-Deep.was c.in_default.is c.reaches_tree.ensures c.in_ok-reaches_tree-in-Deep.was c.if-not-branch.false c.split_down.ensures c.in_ok-split_down-in-Deep.was c.in_ok-middle-in-Deep.ensures.ok_part c.reopen.ensures c.in_ok-inner-in-Deep.was c.rejoin.ensures

@@ -1,13 +1,14 @@
-use Rattle.std.proofs.Common.{◌≡◌, [], ◌∙◌, arith, length-set}
+use Rattle.std.proofs.Common.{◌≡◌, [], min, ap, ◌∙◌, arith}
+use Rattle.lexer.specs.Numbers.{number_state}
 use Rattle.lexer.specs.Reading.{read_from}
-use Rattle.lexer.specs.RowValues.{rows_more, rows_all}
+use Rattle.lexer.specs.RowSteps.{start}
+use Rattle.lexer.specs.RowValues.{rows_all}
+use Rattle.lexer.specs.declared.states.State.TheVariants.{Bad}
 use Rattle.lexer.proofs.tokens.TokensMeasure.empty.Goals as goal
 
-pub loop-s-preserved : goal.loop-s-preserved
-loop-s-preserved c = (
-  length-set c.loop-s.rows c.loop-s.s c.start.result ∙ c.loop-s.invariant.0,
-  rows_more (λ k r. r ≡ read_from k []) c.start.result c.loop-s.rows c.loop-s.s (omega arith) c.loop-s.invariant.1 c.start.ensures,
-)
-
 pub returns : goal.returns
-returns c = rows_all [] c.loop-s.rows c.loop-s.invariant.0 (λ k h. c.loop-s.invariant.1 k (omega arith))
+returns c =
+    rows_all [] c.map.result c.map.ensures.items.long
+    (λ k h.
+    let same : min k 12 ≡ k = omega arith in
+    (c.map.ensures.items.at k Bad (start 0) h).2.met ∙ ap (λ s. read_from s []) (number_state k ∙ same))

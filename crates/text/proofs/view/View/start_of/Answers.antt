@@ -1,5 +1,4 @@
-use Rattle.text.proofs.Asked.{told_by}
 use Rattle.text.proofs.view.View.start_of.Goals as goal
 
 pub returns : goal.returns
-returns g c ms = told_by c.args.slots.now c.watched-lent.result c.watched-lent.ensures (c.start_of.ensures ms)
+returns g c ms = rw c.watched_part.ensures at (c.start_of.ensures ms)

@@ -1,5 +1,0 @@
-use Rattle.std.proofs.Common.{◌-◌}
-use Rattle.source_audit.proofs.visits.+visit_tree.Given as goal
-
-abbrev pub decreases-visit_tree : goal.decreases-visit_tree
-decreases-visit_tree g l = 16 - l.height
