@@ -66,7 +66,7 @@ impl<'a> Replies for Left<'a> {
 }
 
 // Makes the calls of all lines as one list.
-pub(crate) struct ByCalls;
+pub struct ByCalls;
 
 impl Engine for ByCalls {
     ghost use Rattle.std.specs.Prelude.{refl};

@@ -8,7 +8,7 @@ use answering::ByCalls;
 use script::engine::run_on;
 use std::alloc::{AllocError, Global};
 
-mod answering;
+pub mod answering;
 mod collecting;
 mod engine;
 

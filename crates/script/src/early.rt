@@ -53,7 +53,7 @@ impl<'a> Replies for OpenedText<'a> {
     ghost ends = { λ i s. refl };
 }
 
-pub(crate) struct Early;
+pub struct Early;
 
 impl Engine for Early {
     ghost use Rattle.script.specs.Early.{early_from, early_waits};

@@ -8,7 +8,7 @@ use early::Early;
 use engine::run_on;
 use std::alloc::{AllocError, Global};
 
-mod early;
+pub mod early;
 pub mod engine;
 pub mod input;
 pub mod programs;

@@ -1,36 +1,23 @@
-// What the programs do with scripts.
-use std::alloc::{AllocError, Global};
-use std::io::{Read, Write};
-use std::rt::{Env, Files};
-use std::{env, fs, io};
+// What the programs do with a script.
+ghost use Rattle.std.specs.Prelude.{IfSome, None, OnOk};
+ghost use Rattle.std.specs.Io.KnownBytes.{Appends};
+ghost use Rattle.plain.specs.Script.{lines_of};
 
-// Writes what is given for the script that is read.
-pub fn answer_input<R: Read, W: Write, F: Fn(Global, &[u8]) -> Result<Vec<u8>, AllocError>>(
+use crate::engine::{Engine, run_on};
+use std::alloc::Global;
+use std::io;
+use std::io::{Read, Write};
+
+// Writes what the engine prints for the script that is read.
+pub fn answer_input<E: Engine, R: Read, W: Write>(
     heap: Global,
     reader: &mut R,
     writer: &mut W,
-    run: F,
 ) -> io::Result<()>
-    requires { F.IsAlwaysCallable run }
+    ensures { OnOk result (IfSome (R.remaining reader.old) (λ xs. Appends (W.contents writer.old) (W.contents writer.new) (E.prints 1 None (lines_of xs)))) }
 {
     let mut input = Vec::new(heap);
     reader.read_to_end(&mut input)?;
-    let output = run(heap, &input)?;
+    let output = run_on::<E>(heap, &input)?;
     writer.write_all(&output)
-}
-
-// Prints what is given for the script in each file that is named, below its name.
-pub fn answer_files<F: Fn(Global, &[u8]) -> Result<Vec<u8>, AllocError>>(
-    rt: &(impl AllocGlobal + Env + Files + Print),
-    run: F,
-) -> io::Result<()>
-    requires { F.IsAlwaysCallable run }
-{
-    for name in env::args(rt)?.skip(1) {
-        println!(rt; "{name}")?;
-        let input = fs::read(rt, name.as_str())?;
-        let output = run(rt.alloc(), &input)?;
-        rt.write_all(&output)?;
-    }
-    Ok(())
 }
