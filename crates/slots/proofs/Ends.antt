@@ -51,9 +51,6 @@ count_peeled s d is = omega (arith, ap (λ (q : Peel). count q.rest) is, go s d)
     go Back (Three a b c) = omega arith
     go Back (Four a b c d) = omega arith
 
-pub count_rest : (s : Side) (d : Digit) {o : Peel} {rest : Digit} → o ≡ peeled s d → o.rest ≡ Some rest → count (Some rest) < count (Some d)
-count_rest s d is found = omega (arith, ap count found, count_peeled s d is)
-
 pub count_four : (p : Option Digit) → count p ≤ 4
 count_four None = omega arith
 count_four (Some (One a)) = omega arith

@@ -4,7 +4,7 @@ ghost use Rattle.slots.specs.Ghost.{none};
 ghost use Rattle.slots.specs.Values.{value_in, JoinedOk};
 ghost use Rattle.slots.specs.Post.{DigitValued, PartValued, TreeValued, LevelValued};
 
-use crate::records::{Digit, Record, Side, Tree, Unsound};
+use crate::records::{Digit, Record, Tree, Unsound};
 use measures::Measure;
 
 // The value in a slot, where it lies.
@@ -45,10 +45,18 @@ pub fn digit_value<R: Copy, M: Measure>(
 ) -> Result<M::Value, Unsound>
     ensures { DigitValued M.Item.Weigh.weight M.Measure.means slots.now digit result }
 {
-    let last = digit.peel(Side::Back);
-    match last.rest {
-        None => value_at(slots, last.slot),
-        Some(rest) => join_on::<R, M>(slots, &digit_value::<R, M>(slots, rest)?, last.slot),
+    match digit {
+        Digit::One(a) => value_at(slots, a),
+        Digit::Two(a, b) => join_on::<R, M>(slots, value_ref(slots, a)?, b),
+        Digit::Three(a, b, c) => {
+            let two = join_on::<R, M>(slots, value_ref(slots, a)?, b)?;
+            join_on::<R, M>(slots, &two, c)
+        }
+        Digit::Four(a, b, c, d) => {
+            let two = join_on::<R, M>(slots, value_ref(slots, a)?, b)?;
+            let three = join_on::<R, M>(slots, &two, c)?;
+            join_on::<R, M>(slots, &three, d)
+        }
     }
 }
 
