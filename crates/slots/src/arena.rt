@@ -1,6 +1,7 @@
 // Slots that are lent to be written: laying out, taking, giving back, writing and reading. Any contents are met with a
 // result.
-ghost use Rattle.std.specs.Prelude.{◌≡◌, ◌<◌, length, slice_index_or};
+ghost use Rattle.std.specs.Prelude.{◌≡◌, ◌<◌, ◌≤◌, Err, length, slice_index_or};
+ghost use Rattle.slots.specs.Words.{unsound};
 ghost use Rattle.slots.specs.Ghost.{none};
 ghost use Rattle.slots.specs.Values.{spine_in, next_in};
 ghost use Rattle.slots.specs.Post.{watched as «watched-of», LaidOut, Taken, Wrote, Given, LeafPut, DigitValued};
@@ -99,7 +100,8 @@ impl<R: Copy, M: Measure> Arena<'_, R, M> {
     }
 
     fn next_at(&self, i: u16) -> Result<Link, Unsound>
-        ensures { i < length self.now.slots.now → result ≡ next_in (slice_index_or self.now.slots.now i none) }
+        ensures found { i < length self.now.slots.now → result ≡ next_in (slice_index_or self.now.slots.now i none) }
+        ensures past { length self.now.slots.now ≤ i → result ≡ Err unsound }
     {
         next_at(self.slots, i)
     }

@@ -1,5 +1,6 @@
 // What lies in a slot of a lent slice. Any slot number is met with a result.
-ghost use Rattle.std.specs.Prelude.{◌≡◌, ◌<◌, length, slice_index_or};
+ghost use Rattle.std.specs.Prelude.{◌≡◌, ◌<◌, ◌≤◌, Err, length, slice_index_or};
+ghost use Rattle.slots.specs.Words.{unsound};
 ghost use Rattle.slots.specs.Ghost.{none};
 ghost use Rattle.slots.specs.Values.{row_in, parts_in, below_in, spine_in, next_in};
 
@@ -17,7 +18,8 @@ pub fn read<R: Copy, V: Copy>(slots: &[Record<R, V>], i: u16) -> Record<R, V>
 
 // The slot after a free one.
 pub fn next_at<R: Copy, V: Copy>(slots: &[Record<R, V>], i: u16) -> Result<Link, Unsound>
-    ensures { i < length slots.now → result ≡ next_in (slice_index_or slots.now i none) }
+    ensures found { i < length slots.now → result ≡ next_in (slice_index_or slots.now i none) }
+    ensures past { length slots.now ≤ i → result ≡ Err unsound }
 {
     match slots.get(i as usize) {
         Some(Record::Free(next)) => Ok(*next),
