@@ -36,14 +36,14 @@ module _ {R I V : Type 0} {weigh : I → ℕ} {means : List I → V} {says : V �
   pub reach_empty : {tr : Tree} {p : V} → tr ≡ Empty → TreePassed weigh means says rs tr p p (Ok false)
   reach_empty {tr} {p} is = record { passes = λ items w t k e fit light at. tree_empty (λ t. Passes weigh means says items w (rows t) p p (Ok false)) (inr (refl, past_none items w at)) t (e ∙ is) }
 
-  reach_single : {tr : Tree} {i : ℕ} {p p' : V} {r : Result Bool Unsound} → tr ≡ Single i → Passed weigh means says rs i p p' r → TreePassed weigh means says rs tr p p' r
+  pub reach_single : {tr : Tree} {i : ℕ} {p p' : V} {r : Result Bool Unsound} → tr ≡ Single i → Passed weigh means says rs i p p' r → TreePassed weigh means says rs tr p p' r
   reach_single {tr} {i} {p} {p'} {r} is pass = record {
     passes = λ items w t k e fit light at.
         tree_single (λ t. Fit (mean means items) rs t k → weights weigh (upto items w (rows t)) ≤ heaviest → Passes weigh means says items w (rows t) p p' r) i
         (λ u eu f l. pass.passes items w (rows_twig u) (twig_value (mean means items) rs u k i eu f) l at) t (e ∙ is) fit light;
   }
 
-  reach_deep : {tr : Tree} {i : ℕ} {p p' : V} {r : Result Bool Unsound} → tr ≡ Deep i → Passed weigh means says rs i p p' r → TreePassed weigh means says rs tr p p' r
+  pub reach_deep : {tr : Tree} {i : ℕ} {p p' : V} {r : Result Bool Unsound} → tr ≡ Deep i → Passed weigh means says rs i p p' r → TreePassed weigh means says rs tr p p' r
   reach_deep {tr} {i} {p} {p'} {r} is pass = record {
     passes = λ items w t k e fit light at.
         tree_deep (λ t. Fit (mean means items) rs t k → weights weigh (upto items w (rows t)) ≤ heaviest → Passes weigh means says items w (rows t) p p' r) i
