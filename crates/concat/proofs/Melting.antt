@@ -255,10 +255,6 @@ module _ {R I V : Type 0} {weigh : I → ℕ} {means : List I → V} where
           (mean means items) l k h.fit_l (h.left_is ∙ left_is) h;
     }
 
-    pub no_between : {rs' : List (Record R V)} {f' : Link} {value : Result V Unsound} {e : Unsound} {r : Result Tree Unsound} → JoinedBetween weigh means rs i p j value → value ≡ Err e → Melted weigh means rs rs' f f' fuel left p right r
-    no_between jo bad = at_levels (λ items v v' F m B P G n L fs k d ef eb eg el em en h.
-        absurd (ok_err (jo.joins items (rows (deep i v F m B)) P (rows (deep j v' G n L)) k h.part_is h.fits (deep_value (mean means items) rs i v F m B k h.fit_l) (deep_value (mean means items) rs j v' G n L k h.fit_s) h.light) bad))
-
     module _ {rs₁ : List (Record R V)} {f₁ : Link} {c : Result (Option Digit) Unsound} (bun : Bundled weigh means rs rs₁ f f₁ a.back p b.front c) where
       pub no_nodes : {rs' : List (Record R V)} {f' : Link} {e : Unsound} {r : Result Tree Unsound} → c ≡ Err e → Melted weigh means rs rs' f f' fuel left p right r
       no_nodes bad = at_levels (λ items v v' F m B P G n L fs k d ef eb eg el em en h. absurd (ok_err (nodes_go bun items v v' F m B P G n L fs k d eb eg h).ok bad))

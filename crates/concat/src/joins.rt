@@ -6,25 +6,25 @@ use crate::bundles::bundle;
 use measures::Measure;
 use slots::arena::Arena;
 use slots::records::{Digit, LEVELS, Link, Record, Side, Tree, Unsound};
-use slots::values::{join_on, value_at};
+use slots::values::{digit_value, join_on, value_at};
 use tree::build::put_level;
 use tree::ends::push_down;
 
 // The value of slot i, then of the part, then of slot j.
 pub fn join_between<R: Copy, M: Measure>(
-    arena: &Arena<R, M>,
+    slots: &[Record<R, M::Value>],
     i: u16,
     part: Option<Digit>,
     j: u16,
 ) -> Result<M::Value, Unsound>
-    ensures { JoinedBetween M.Item.Weigh.weight M.Measure.means arena.now.slots.now i part j result }
+    ensures { JoinedBetween M.Item.Weigh.weight M.Measure.means slots.now i part j result }
 {
-    let first = value_at(arena.slots, i)?;
+    let first = value_at(slots, i)?;
     match part {
-        None => join_on::<R, M>(arena.slots, &first, j),
+        None => join_on::<R, M>(slots, &first, j),
         Some(digit) => {
-            let left = M::join(&first, &arena.digit_value(digit)?);
-            join_on::<R, M>(arena.slots, &left, j)
+            let left = M::join(&first, &digit_value::<R, M>(slots, digit)?);
+            join_on::<R, M>(slots, &left, j)
         }
     }
 }
@@ -66,6 +66,18 @@ pub fn extend_past<R: Copy, M: Measure>(
     push_down(arena, fuel, side, more, x)
 }
 
+// By a shared arena, since the slots of one that is lent to be written are not lent to be read.
+fn join_between_in<R: Copy, M: Measure>(
+    arena: &Arena<R, M>,
+    i: u16,
+    part: Option<Digit>,
+    j: u16,
+) -> Result<M::Value, Unsound>
+    ensures { JoinedBetween M.Item.Weigh.weight M.Measure.means arena.now.slots.now i part j result }
+{
+    join_between::<R, M>(arena.slots, i, part, j)
+}
+
 pub fn concat_down<R: Copy, M: Measure>(
     arena: &mut Arena<R, M>,
     fuel: u8,
@@ -87,7 +99,7 @@ pub fn concat_down<R: Copy, M: Measure>(
             }
             let l = arena.spine_at(i)?;
             let r = arena.spine_at(j)?;
-            let value = join_between(arena, i, part, j)?;
+            let value = join_between_in(arena, i, part, j);
             let nodes = bundle(arena, l.back, part, r.front)?;
             let middle = concat_down(arena, fuel - 1, l.middle, nodes, r.middle)?;
             arena.give(j)?;

@@ -118,14 +118,6 @@ module _ {R I V : Type 0} {weigh : I → ℕ} {means : List I → V} where
         (λ w e h. single_go jo took got (subst (λ q. LevelPut q rs' i (pick s (One x) (One y)) Empty (pick s (One y) (One x)) value r) kept lp) items w u fs k e h) t (h.tree ∙ is) h;
   }
 
-  pub push_no_ends : {rs rs' : List (Record R V)} {f f' : Link} {fuel x y : ℕ} {s : Side} {tr : Tree} {value : Result V Unsound} {e : Unsound} {r : Result Tree Unsound}
-      → tr ≡ Single y → JoinedEnds weigh means rs s x y value → value ≡ Err e → Pushed weigh means rs rs' f f' fuel s tr x r
-  push_no_ends {rs} {rs'} {f} {f'} {fuel} {x} {y} {s} {tr} {r = r} is jo bad = record {
-    pushes = λ items t u fs k h.
-        tree_single (λ t. Ready weigh means items rs f fuel tr x t u fs k → Push weigh means items rs rs' f' s r t u fs k) y
-        (λ w ew h. absurd (ok_err (jo.joins items (rows_twig u) (rows_twig w) (twig_value (mean means items) rs u k x h.twig h.fit_u) (twig_value (mean means items) rs w k y ew h.fit) (omega (arith, h.light, wt_ends weigh items s (rows_twig u) (rows_twig w)))) bad)) t (h.tree ∙ is) h;
-  }
-
   push_no_slot_go : {rs : List (Record R V)} {f f' : Link} {fuel x : ℕ} {tr : Tree} {p : Result ℕ Unsound} {e : Unsound} (items : R → List I) (t : Finger R V) (u : Twig R V) (fs : List ℕ) (k : ℕ)
       → Taken rs f f' p → p ≡ Err e → Ready weigh means items rs f fuel tr x t u fs k → ⊥
   push_no_slot_go items t u [] k took bad h = omega (arith, h.long)
@@ -305,9 +297,6 @@ module _ {R I V : Type 0} {weigh : I → ℕ} {means : List I → V} where
           → NodePut weigh means rs rs₁ f f₁ pd p → p ≡ Ok n₁ → Pushed weigh means rs₁ rs₂ f₁ f₂ (fuel - 1) s level.middle n₁ q → q ≡ Ok mt' → LevelPut rs₂ rs' i (pick s kd xd) mt' (pick s xd kd) value r
           → Pushed weigh means rs rs' f f₂ fuel s tr x r
       push_over is jo np got push went lp = at_deep (λ items v N m X u fs k en et ex h. four_go {s = s} (sym is ∙ grew) jo np got push went lp items v N m X u fs k en et ex h)
-
-    pub push_no_value : {rs' : List (Record R V)} {f' : Link} {value : Result V Unsound} {e : Unsound} {r : Result Tree Unsound} → JoinedEnds weigh means rs s x i value → value ≡ Err e → Pushed weigh means rs rs' f f' fuel s tr x r
-    push_no_value jo bad = at_deep (λ items v N m X u fs k en et ex h. absurd (ok_err (deep_joined jo items v (pick s N X) m (pick s X N) u fs k h) bad))
 
     pub push_no_fuel : {rs' : List (Record R V)} {f' : Link} {r : Result Tree Unsound} → fuel ≡ 0 → Pushed weigh means rs rs' f f' fuel s tr x r
     push_no_fuel is = at_deep (λ items v N m X u fs k en et ex h. absurd (omega (arith, h.fuelled)))

@@ -94,14 +94,6 @@ module _ {R I V : Type 0} {weigh : I → ℕ} {means : List I → V} where
         };
   }
 
-  pub settle_no_value : {rs rs' : List (Record R V)} {s : Side} {i : ℕ} {n d a b : Digit} {tm : Tree} {value : Result V Unsound} {r : Result Tree Unsound} {e : Unsound}
-      → a ≡ pick s n d → b ≡ pick s d n → LevelValued weigh means rs a tm b value → value ≡ Err e → Settled weigh means rs rs' s i n tm d r
-  settle_no_value {rs} {s = s} {i} {n} {d} {a} {b} {tm} {value} ea eb₁ va bad = record {
-    settles = λ items f N m B fs k en et eb fn h.
-        let va₁ : LevelValued weigh means rs (pick s n d) tm (pick s d n) value = subst (λ q. LevelValued weigh means rs (pick s n d) tm q value) eb₁ (subst (λ q. LevelValued weigh means rs q tm b value) ea va) in
-        absurd (ok_err (level_joined s va₁ items N m B k en et eb fn h.fit_m h.fit_b h.light) bad);
-  }
-
   -- a digit of one slot needs no level
   pub replant_one : {rs rs' : List (Record R V)} {f f' : Link} {i a : ℕ} {d : Digit} {w : Result (Unit {0}) Unsound} → d ≡ One a → Given rs rs' f f' i w → Replanted weigh means rs rs' f f' i d (Ok (Single a))
   replant_one {rs} {rs'} {f} {f'} {i} {a} is give = record {

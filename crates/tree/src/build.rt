@@ -1,5 +1,5 @@
 // Nodes and levels written into slots.
-ghost use Rattle.std.specs.Prelude.{◌≡◌, Ok};
+ghost use Rattle.std.specs.Prelude.{◌≡◌};
 ghost use Rattle.slots.specs.Sides.{pick as picked};
 ghost use Rattle.tree.specs.Post.{JoinedEnds, LevelPut, NodePut, NodeTaken, Settled, Replanted, Planted};
 
@@ -11,16 +11,16 @@ use slots::values::{join_on, level_value, value_at};
 
 // The value of slot x, joined at that side to the value of slot i.
 pub fn join_ends<R: Copy, M: Measure>(
-    arena: &Arena<R, M>,
+    slots: &[Record<R, M::Value>],
     side: Side,
     x: u16,
     i: u16,
 ) -> Result<M::Value, Unsound>
-    ensures { JoinedEnds M.Item.Weigh.weight M.Measure.means arena.now.slots.now side x i result }
+    ensures { JoinedEnds M.Item.Weigh.weight M.Measure.means slots.now side x i result }
 {
     match side {
-        Side::Front => join_on::<R, M>(arena.slots, &value_at(arena.slots, x)?, i),
-        Side::Back => join_on::<R, M>(arena.slots, &value_at(arena.slots, i)?, x),
+        Side::Front => join_on::<R, M>(slots, &value_at(slots, x)?, i),
+        Side::Back => join_on::<R, M>(slots, &value_at(slots, i)?, x),
     }
 }
 
@@ -32,10 +32,11 @@ pub fn put_level<R: Copy, V: Copy>(
     near: Digit,
     middle: Tree,
     far: Digit,
-    value: V,
+    value: Result<V, Unsound>,
 ) -> Result<Tree, Unsound>
-    ensures { LevelPut slots.old slots.new i (picked side near far) middle (picked side far near) (Ok value) result }
+    ensures { LevelPut slots.old slots.new i (picked side near far) middle (picked side far near) value result }
 {
+    let value = value?;
     let level = Record::Level {
         front: side.pick(near, far),
         middle,
@@ -82,7 +83,7 @@ pub fn settle<R: Copy, M: Measure>(
 ) -> Result<Tree, Unsound>
     ensures { Settled M.Item.Weigh.weight M.Measure.means slots.old slots.new side i near middle far result }
 {
-    let value = level_value::<R, M>(slots, side.pick(near, far), middle, side.pick(far, near))?;
+    let value = level_value::<R, M>(slots, side.pick(near, far), middle, side.pick(far, near));
     put_level(slots, side, i, near, middle, far, value)
 }
 

@@ -1,6 +1,6 @@
 // Pushing and popping at either side.
 ghost use Rattle.std.specs.Prelude.{◌≡◌};
-ghost use Rattle.tree.specs.Post.{Pushed, Refilled, Deepened, Pops, PopsFirst};
+ghost use Rattle.tree.specs.Post.{JoinedEnds, Pushed, Refilled, Deepened, Pops, PopsFirst};
 
 use crate::build::{join_ends, put_level, put_node, replant, settle, take_node};
 use measures::Measure;
@@ -12,6 +12,18 @@ use slots::records::{Digit, Grown, LEVELS, Link, Record, Side, Tree, Unsound};
 pub struct Popped {
     pub slot: u16,
     pub rest: Tree,
+}
+
+// By a shared arena, since the slots of one that is lent to be written are not lent to be read.
+fn join_ends_in<R: Copy, M: Measure>(
+    arena: &Arena<R, M>,
+    side: Side,
+    x: u16,
+    i: u16,
+) -> Result<M::Value, Unsound>
+    ensures { JoinedEnds M.Item.Weigh.weight M.Measure.means arena.now.slots.now side x i result }
+{
+    join_ends::<R, M>(arena.slots, side, x, i)
 }
 
 // One slot more at that side; fuel bounds the levels.
@@ -28,7 +40,7 @@ pub fn push_down<R: Copy, M: Measure>(
     match tree {
         Tree::Empty => Ok(Tree::Single(x)),
         Tree::Single(y) => {
-            let value = join_ends(arena, side, x, y)?;
+            let value = join_ends_in(arena, side, x, y);
             let i = arena.take()?;
             put_level(
                 arena.slots,
@@ -44,7 +56,7 @@ pub fn push_down<R: Copy, M: Measure>(
             let level = arena.spine_at(i)?;
             let near = side.pick(level.front, level.back);
             let far = side.flip().pick(level.front, level.back);
-            let value = join_ends(arena, side, x, i)?;
+            let value = join_ends_in(arena, side, x, i);
             match near.grow(side, x) {
                 Grown::Room(digit) => {
                     put_level(arena.slots, side, i, digit, level.middle, far, value)

@@ -1,4 +1,4 @@
-use Rattle.concat.proofs.Melting.{left_empty, right_empty, left_one, right_one, no_left, no_right, no_between, no_fuel, no_nodes, no_middle, no_gift, both}
+use Rattle.concat.proofs.Melting.{left_empty, right_empty, left_one, right_one, no_left, no_right, no_fuel, no_nodes, no_middle, no_gift, both}
 use Rattle.concat.proofs.joins.+concat_down.Goals as goal
 
 pub returns-in-Empty-default-clause-melted : goal.returns-in-Empty-default-clause-melted
@@ -32,7 +32,4 @@ pub returns-in_err-give-in-Deep-Deep-clause-melted : goal.returns-in_err-give-in
 returns-in_err-give-in-Deep-Deep-clause-melted g t c = no_gift c.in-Deep-Deep.is-0 c.in-Deep-Deep.is-1 c.spine_at.ensures c.in_ok-l-in-Deep-Deep.was c.spine_at-in-Deep-Deep.ensures c.in_ok-r-in-Deep-Deep.was c.bundle.ensures.bundled c.in_ok-nodes-in-Deep-Deep.was c.concat_down.ensures.melted c.give.ensures.given c.in_err-give-in-Deep-Deep.was
 
 pub returns-in_ok-give-in-Deep-Deep-clause-melted : goal.returns-in_ok-give-in-Deep-Deep-clause-melted
-returns-in_ok-give-in-Deep-Deep-clause-melted g t c = both c.in-Deep-Deep.is-0 c.in-Deep-Deep.is-1 c.spine_at.ensures c.in_ok-l-in-Deep-Deep.was c.spine_at-in-Deep-Deep.ensures c.in_ok-r-in-Deep-Deep.was c.bundle.ensures.bundled c.in_ok-nodes-in-Deep-Deep.was c.concat_down.ensures.melted c.in_ok-value-in-Deep-Deep.ensures c.in_ok-middle-in-Deep-Deep.was c.give.ensures.given c.put_level.ensures
-
-pub returns-in_err-value-in-Deep-Deep-clause-melted : goal.returns-in_err-value-in-Deep-Deep-clause-melted
-returns-in_err-value-in-Deep-Deep-clause-melted g t c = no_between c.in-Deep-Deep.is-0 c.in-Deep-Deep.is-1 c.spine_at.ensures c.in_ok-l-in-Deep-Deep.was c.spine_at-in-Deep-Deep.ensures c.in_ok-r-in-Deep-Deep.was c.join_between.ensures c.in_err-value-in-Deep-Deep.was
+returns-in_ok-give-in-Deep-Deep-clause-melted g t c = both c.in-Deep-Deep.is-0 c.in-Deep-Deep.is-1 c.spine_at.ensures c.in_ok-l-in-Deep-Deep.was c.spine_at-in-Deep-Deep.ensures c.in_ok-r-in-Deep-Deep.was c.bundle.ensures.bundled c.in_ok-nodes-in-Deep-Deep.was c.concat_down.ensures.melted c.join_between_in-value.ensures c.in_ok-middle-in-Deep-Deep.was c.give.ensures.given c.put_level.ensures
