@@ -30,6 +30,25 @@ impl Halves {
     }
 }
 
+// In an arena, so that its first free slot is handed back on refusal too.
+fn edge_in<R: Copy, M: Measure>(
+    arena: &mut Arena<R, M>,
+    fuel: u8,
+    side: Side,
+    i: u16,
+    level: Spine,
+    cut: Cut,
+) -> Result<Option<Halves>, Unsound>
+    ensures same { arena.new.slots.ghost_name ≡ arena.old.slots.ghost_name }
+    ensures edged { Edged M.Item.Weigh.weight M.Measure.means arena.old.slots.now arena.new.slots.now arena.old.free arena.new.free fuel side i level cut result }
+{
+    let far = side.pick(level.back, level.front);
+    let near = side.flip().pick(cut.left, cut.right);
+    let inner = deep(arena, fuel, side, i, near, level.middle, far)?;
+    let outer = plant(arena, side.pick(cut.left, cut.right))?;
+    Ok(Some(Halves::new(side, outer, cut.at, inner)))
+}
+
 // From a level in slot i whose digit at that side is cut: the outer part is a tree of its own, the inner one keeps the
 // level.
 pub fn edge<R: Copy, M: Measure>(
@@ -43,13 +62,48 @@ pub fn edge<R: Copy, M: Measure>(
 ) -> Result<Option<Halves>, Unsound>
     ensures { Edged M.Item.Weigh.weight M.Measure.means slots.old slots.new free.old free.new fuel side i level cut result }
 {
-    let far = side.pick(level.back, level.front);
-    let near = side.flip().pick(cut.left, cut.right);
     let mut arena: Arena<R, M> = Arena { slots, free: *free };
-    let inner = deep(&mut arena, fuel, side, i, near, level.middle, far)?;
-    let outer = plant(&mut arena, side.pick(cut.left, cut.right))?;
+    let made = edge_in(&mut arena, fuel, side, i, level, cut);
     *free = arena.free;
-    Ok(Some(Halves::new(side, outer, cut.at, inner)))
+    made
+}
+
+// In an arena, as `edge_in`.
+fn rejoin_in<R: Copy, M: Measure>(
+    arena: &mut Arena<R, M>,
+    fuel: u8,
+    i: u16,
+    level: Spine,
+    middle: Halves,
+    cut: Cut,
+) -> Result<Option<Halves>, Unsound>
+    ensures same { arena.new.slots.ghost_name ≡ arena.old.slots.ghost_name }
+    ensures rejoined { Rejoined M.Item.Weigh.weight M.Measure.means arena.old.slots.now arena.new.slots.now arena.old.free arena.new.free fuel i level middle cut result }
+{
+    let left = deep(
+        arena,
+        fuel,
+        Side::Back,
+        i,
+        cut.left,
+        middle.left,
+        level.front,
+    )?;
+    let j = arena.take()?;
+    let right = deep(
+        arena,
+        fuel,
+        Side::Front,
+        j,
+        cut.right,
+        middle.right,
+        level.back,
+    )?;
+    Ok(Some(Halves {
+        left,
+        at: cut.at,
+        right,
+    }))
 }
 
 // From a level in slot i whose middle is in halves, and the node between them is cut.
@@ -65,29 +119,7 @@ pub fn rejoin<R: Copy, M: Measure>(
     ensures { Rejoined M.Item.Weigh.weight M.Measure.means slots.old slots.new free.old free.new fuel i level middle cut result }
 {
     let mut arena: Arena<R, M> = Arena { slots, free: *free };
-    let left = deep(
-        &mut arena,
-        fuel,
-        Side::Back,
-        i,
-        cut.left,
-        middle.left,
-        level.front,
-    )?;
-    let j = arena.take()?;
-    let right = deep(
-        &mut arena,
-        fuel,
-        Side::Front,
-        j,
-        cut.right,
-        middle.right,
-        level.back,
-    )?;
+    let made = rejoin_in(&mut arena, fuel, i, level, middle, cut);
     *free = arena.free;
-    Ok(Some(Halves {
-        left,
-        at: cut.at,
-        right,
-    }))
+    made
 }
