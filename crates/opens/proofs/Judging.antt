@@ -15,7 +15,7 @@ use Rattle.slots.proofs.Weights.{flat_append}
 use Rattle.pieces.specs.Sound.{TextValue, text_means}
 use Rattle.pieces.specs.declared.rows.PieceRow.{PieceRow}
 use Rattle.bracket_questions.specs.Waiting.{waited}
-use Rattle.opens.specs.Parts.{part_from_slot, held_by}
+use Rattle.opens.specs.Parts.{part_from_slot, found_only, held_by}
 use Rattle.opens.specs.Walks.{Aim, Stands, Heads, Placed, Entered, Visited}
 use Rattle.opens.specs.declared.parts.Start.{Start}
 use Rattle.opens.specs.declared.parts.Part.{Part}
@@ -91,11 +91,11 @@ module _ {items : PieceRow → List ℕ} {limit : ℕ} (a : Aim items limit) whe
   heads_ok P f bad = ⊎_elim (λ q. ok_err q.1 bad) (λ q. ok_err q.1 bad) f
 
   -- what was found in rows that were entered
-  pub held : (P T : List PieceRow) (k : ℕ) (n : Option ℕ) {r : Result Back Unsound} {found : Back} → Stands a (P ++ T) k → Entered a P T k n → r ≡ held_by n found → Heads a P (Ok found) → Heads a P r
+  pub held : (P T : List PieceRow) (k : ℕ) (n : Option ℕ) {r found : Result Back Unsound} → Stands a (P ++ T) k → Entered a P T k n → r ≡ held_by n found → Heads a P found → Heads a P r
   held P T k None s en is f = subst (Heads a P) (sym is) f
   held P T k (Some n) s en is f = ⊎_elim
       (λ q. absurd (not_before P T k en.0 s q.0 (omega (arith, en.1, en.2)) q.2))
-      (λ q. inr (q.0, is ∙ ap (held_by (Some n)) (ok_same refl q.1), q.2)) f
+      (λ q. inr (q.0, is ∙ ap found_only q.1, q.2)) f
 
   pub inside_of : (P T : List PieceRow) (k : ℕ) (n : Option ℕ) → Entered a P T k n → is_some n ≡ true → length (flat items (P ++ T)) ≤ limit
   inside_of P T k None en is = absurd (let z : ◌≡◌ {A = ℕ} 0 1 = cc in omega arith)

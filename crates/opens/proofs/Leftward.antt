@@ -105,9 +105,9 @@ module _ {A : Type 0} {rs : List (Record PieceRow (TextValue A))} {height i : �
         pub slot_no_parts : {e : Unsound} {r : Result Back Unsound} → ps ≡ Err e → SlotWalked rs height i x limit inside later r
         slot_no_parts bad = record { walks = λ am items a P u e fit pl f. absurd (ok_err (opened (mean (text_means am) items) rs (λ z. omega arith) rd u height refl e fit).4 bad) }
 
-        pub slot_node : {d : Digit} {whole : Bool} {found r : Result Back Unsound} → ps ≡ Ok d → whole ≡ is_some n → DigitWalked rs (height - 1) d x limit whole (Before k) found → OkOr found (λ b. r ≡ held_by n b)
+        pub slot_node : {d : Digit} {whole : Bool} {found r : Result Back Unsound} → ps ≡ Ok d → whole ≡ is_some n → DigitWalked rs (height - 1) d x limit whole (Before k) found → r ≡ held_by n found
             → SlotWalked rs height i x limit inside later r
-        slot_node {d} {whole} {found} gp wh D next = record {
+        slot_node {d} {whole} {found} gp wh D hold-is = record {
           walks = λ am items a P u e fit pl f.
               let o = opened (mean (text_means am) items) rs (λ z. omega arith) rd u height refl e fit in
               let S = visited_into a P (rows_twig u) got is (visited height V am items a P u e fit pl f) in
@@ -115,7 +115,7 @@ module _ {A : Type 0} {rs : List (Record PieceRow (TextValue A))} {height i : �
               let g = D₁.walks am items a P o.0 (ok_same o.4 gp) o.5
               (subst (λ (l : List PieceRow). Placed a P l x whole) (sym o.3) (placed_inside a P (rows_twig u) k n pl S.1 wh))
               (inl (k, refl, subst (λ (l : List PieceRow). Stands a (P ++ l) k) (sym o.3) S.0)) in
-              ⊎_elim (λ y. held a P (rows_twig u) k n S.0 S.1 y.2 (subst (Heads a P) y.1 g)) (λ y. absurd (heads_ok a P g y.1)) next;
+              held a P (rows_twig u) k n S.0 S.1 hold-is g;
         }
 
       -- at a leaf
@@ -289,7 +289,7 @@ module _ {A : Type 0} {rs : List (Record PieceRow (TextValue A))} {height : ℕ}
 
               pub tree_level : {last : Start} {whole : Bool} {x₁ r : Result Back Unsound} → q₂ ≡ Ok last → whole ≡ is_some n → DigitWalked rs height s.back last limit whole (Before k) x₁
                   → OkOr x₁ (λ b. (y₁ : Result Back Unsound) × TreeWalked rs (height + 1) s.middle inner limit whole b y₁
-                  × OkOr y₁ (λ c. (z₁ : Result Back Unsound) × DigitWalked rs height s.front x limit whole c z₁ × OkOr z₁ (λ d. r ≡ held_by n d)))
+                  × OkOr y₁ (λ c. (z₁ : Result Back Unsound) × DigitWalked rs height s.front x limit whole c z₁ × (r ≡ held_by n z₁)))
                   → TreeWalked rs height tr x limit inside later r
               tree_level {last} {whole} {x₁} g₂ wh Wb next = at_parts (λ am items a P F m B ef em eb ff fm fb lo p st en E.
                   let T₁ = rows_arm F in
@@ -309,7 +309,7 @@ module _ {A : Type 0} {rs : List (Record PieceRow (TextValue A))} {height : ℕ}
                   ⊎_elim
                   (λ Y.
                   let hf = Y.2.1.walks am items a P F ef ff (placed_first a P (T₁ ++ T₂) T₁ T₂ refl pf) (subst (Heads a (P ++ T₁)) Y.1 hm) in
-                  ⊎_elim (λ Z. held a P ((T₁ ++ T₂) ++ T₃) k n st en Z.2 (subst (Heads a P) Z.1 hf)) (λ Z. absurd (heads_ok a P hf Z.1)) Y.2.2)
+                  held a P ((T₁ ++ T₂) ++ T₃) k n st en Y.2.2 hf)
                   (λ Y. absurd (heads_ok a (P ++ T₁) hm Y.1)) X.2.2)
                   (λ X. absurd (heads_ok a (P ++ (T₁ ++ T₂)) hb X.1)) next)
 

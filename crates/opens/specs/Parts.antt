@@ -18,8 +18,13 @@ part_from_slot v x =
       unmet = r.unmet;
     }
 
+-- only an open that was found
+abbrev pub found_only : Result Back Unsound → Result Back Unsound
+found_only (Ok (At h)) = Ok (At h)
+found_only (Ok (Before k)) = Err unsound
+found_only (Err e) = Err e
+
 -- where the open is of a rank in the part, only an open that was found
-abbrev pub held_by : Option ℕ → Back → Result Back Unsound
-held_by None b = Ok b
-held_by (Some n) (At h) = Ok (At h)
-held_by (Some n) (Before k) = Err unsound
+abbrev pub held_by : Option ℕ → Result Back Unsound → Result Back Unsound
+held_by None r = r
+held_by (Some n) r = found_only r

@@ -62,11 +62,11 @@ pub fn part_from<V: Copy>(value: &Pair<Pair<Totals, Rows>, V>, start: Start) -> 
 }
 
 // What was found in a part that was entered. Where the open is of a rank in it, it must have been found.
-pub fn hold(rank: Option<u32>, found: Back) -> Result<Back, Unsound>
+pub fn hold(rank: Option<u32>, found: Result<Back, Unsound>) -> Result<Back, Unsound>
     ensures { result ≡ held_by rank found }
 {
-    match (rank, found) {
+    match (rank, found?) {
         (Some(_), Back::Before(_)) => Err(Unsound),
-        _ => Ok(found),
+        (_, back) => Ok(back),
     }
 }

@@ -72,7 +72,7 @@ impl<V: Copy> Walk<'_, V> {
                         start,
                         rank.is_some(),
                         Back::Before(closes),
-                    )?;
+                    );
                     return hold(rank, found);
                 }
                 let rank = rank.ok_or(Unsound)?;
@@ -134,7 +134,7 @@ impl<V: Copy> Walk<'_, V> {
                         let none = Back::Before(closes);
                         let back = self.digit(height, level.back, last, whole, none)?;
                         let middle = self.tree(height + 1, level.middle, inner, whole, back)?;
-                        let front = self.digit(height, level.front, start, whole, middle)?;
+                        let front = self.digit(height, level.front, start, whole, middle);
                         hold(rank, front)
                     }
                 }

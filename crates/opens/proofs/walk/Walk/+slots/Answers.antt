@@ -22,10 +22,7 @@ pub slot-returns-in_err-parts-in-Into : goal.slot-returns-in_err-parts-in-Into
 slot-returns-in_err-parts-in-Into g t c = slot_no_parts c.visit.ensures c.in_ok-visit.was c.in-Into.is c.if-height-gt0.true c.parts_at.ensures c.in_err-parts-in-Into.was
 
 pub slot-returns-then-height-gt0 : goal.slot-returns-then-height-gt0
-slot-returns-then-height-gt0 g t c = slot_node c.visit.ensures c.in_ok-visit.was c.in-Into.is c.if-height-gt0.true c.parts_at.ensures c.in_ok-parts-in-Into.was c.is_some.ensures c.digit.ensures (inl (_, c.in_ok-found-in-Into.was, c.hold.ensures))
-
-pub slot-returns-in_err-found-in-Into : goal.slot-returns-in_err-found-in-Into
-slot-returns-in_err-found-in-Into g t c = slot_node c.visit.ensures c.in_ok-visit.was c.in-Into.is c.if-height-gt0.true c.parts_at.ensures c.in_ok-parts-in-Into.was c.is_some.ensures c.digit.ensures (inr (_, c.in_err-found-in-Into.was))
+slot-returns-then-height-gt0 g t c = slot_node c.visit.ensures c.in_ok-visit.was c.in-Into.is c.if-height-gt0.true c.parts_at.ensures c.in_ok-parts-in-Into.was c.is_some.ensures c.digit-found.ensures c.hold.ensures
 
 pub slot-returns-in-Past : goal.slot-returns-in-Past
 slot-returns-in-Past g t c = slot_past c.visit.ensures c.in_ok-visit.was c.in-Past.is

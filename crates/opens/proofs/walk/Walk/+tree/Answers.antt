@@ -32,8 +32,5 @@ returns-in_err-back-in-Into g t c = tree_level c.in-Deep.is c.visit.ensures c.in
 pub returns-in_err-middle-in-Into : goal.returns-in_err-middle-in-Into
 returns-in_err-middle-in-Into g t c = tree_level c.in-Deep.is c.visit.ensures c.in_ok-visit-in-Deep.was c.in-Into.is c.spine_at.ensures c.in_ok-level-in-Into.was c.digit_end.ensures c.in_ok-inner-in-Into.was c.tree_end.ensures c.in_ok-last-in-Into.was c.is_some-whole.ensures c.digit.ensures (inl (_, c.in_ok-back-in-Into.was, (_, c.tree.ensures, inr (_, c.in_err-middle-in-Into.was))))
 
-pub returns-in_err-front-in-Into : goal.returns-in_err-front-in-Into
-returns-in_err-front-in-Into g t c = tree_level c.in-Deep.is c.visit.ensures c.in_ok-visit-in-Deep.was c.in-Into.is c.spine_at.ensures c.in_ok-level-in-Into.was c.digit_end.ensures c.in_ok-inner-in-Into.was c.tree_end.ensures c.in_ok-last-in-Into.was c.is_some-whole.ensures c.digit.ensures (inl (_, c.in_ok-back-in-Into.was, (_, c.tree.ensures, inl (_, c.in_ok-middle-in-Into.was, (_, c.digit-in-Into.ensures, inr (_, c.in_err-front-in-Into.was))))))
-
-pub returns-in_ok-front-in-Into : goal.returns-in_ok-front-in-Into
-returns-in_ok-front-in-Into g t c = tree_level c.in-Deep.is c.visit.ensures c.in_ok-visit-in-Deep.was c.in-Into.is c.spine_at.ensures c.in_ok-level-in-Into.was c.digit_end.ensures c.in_ok-inner-in-Into.was c.tree_end.ensures c.in_ok-last-in-Into.was c.is_some-whole.ensures c.digit.ensures (inl (_, c.in_ok-back-in-Into.was, (_, c.tree.ensures, inl (_, c.in_ok-middle-in-Into.was, (_, c.digit-in-Into.ensures, inl (_, c.in_ok-front-in-Into.was, c.hold.ensures))))))
+pub returns-in_ok-middle-in-Into : goal.returns-in_ok-middle-in-Into
+returns-in_ok-middle-in-Into g t c = tree_level c.in-Deep.is c.visit.ensures c.in_ok-visit-in-Deep.was c.in-Into.is c.spine_at.ensures c.in_ok-level-in-Into.was c.digit_end.ensures c.in_ok-inner-in-Into.was c.tree_end.ensures c.in_ok-last-in-Into.was c.is_some-whole.ensures c.digit.ensures (inl (_, c.in_ok-back-in-Into.was, (_, c.tree.ensures, inl (_, c.in_ok-middle-in-Into.was, (_, c.digit-front.ensures, c.hold.ensures)))))
