@@ -1,5 +1,5 @@
 -- What a list of bytes tells of the longest line of a text that it is part of.
-use Rattle.std.specs.Prelude.{ℕ, max, List, [], ◌∷◌}
+use Rattle.std.specs.Prelude.{◌≡◌, ℕ, max, Bool, true, false, List, [], ◌∷◌}
 use Rattle.plain.specs.Questions.{line_lengths}
 use Rattle.measures.specs.declared.longest_line.LongestLine.{LongestLine}
 use Rattle.measures.specs.declared.longest_line.LongestLine.TheVariants.{Whole, Parted}
@@ -27,3 +27,26 @@ lines bs = edges (line_lengths bs)
 abbrev pub longest_in : LongestLine → ℕ
 longest_in (Whole n) = n
 longest_in (Parted m n p) = max (max m n) p
+
+-- whether a line feed occurs, and the lengths of the first line, of the longest between and of the last; the one line is first and last
+abbrev pub has_feed_in : LongestLine → Bool
+has_feed_in (Whole n) = false
+has_feed_in (Parted m n p) = true
+
+abbrev pub first_in : LongestLine → ℕ
+first_in (Whole n) = n
+first_in (Parted m n p) = m
+
+abbrev pub inner_in : LongestLine → ℕ
+inner_in (Whole n) = 0
+inner_in (Parted m n p) = n
+
+abbrev pub last_in : LongestLine → ℕ
+last_in (Whole n) = n
+last_in (Parted m n p) = p
+
+-- These are its three lengths.
+pub record IsOfParts (v : LongestLine) (m n p : ℕ) : Type 0 where
+  pub first : first_in v ≡ m
+  pub inner : inner_in v ≡ n
+  pub last : last_in v ≡ p
