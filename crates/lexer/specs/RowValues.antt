@@ -1,9 +1,10 @@
--- The rows of a value.
-use Rattle.std.specs.Prelude.{◌≡◌, ℕ, ◌<◌, ◌≤◌, min, List, ◌++◌, length, get_or, nat_le, slice_index_or}
-use Rattle.std.proofs.Common.{ap, ◌∙◌, arith}
+-- The rows of a value, and a loop that writes them one after another.
+use Rattle.std.specs.Prelude.{◌≡◌, ℕ, ◌+◌, ◌<◌, ◌≤◌, min, List, ◌++◌, length, get_or, nat_le, ◌≢◌, slice_index_or, slice_set}
+use Rattle.std.proofs.Common.{sym, ap, subst, ◌∙◌, arith, below_more, get_or-set_same, get_or-set_other}
 use Rattle.std.proofs.lemmas.List.FromFn.{get_or-map-range_with_len, fill_by_all}
 use Rattle.measures.specs.Law.{Keeps}
 use Rattle.measures.specs.Reached.{reached_kept}
+use Rattle.lexer.specs.Numbers.{number_of, number_bound}
 use Rattle.lexer.specs.Reading.{read_from, reading, row_at}
 use Rattle.lexer.specs.declared.tokens.TokenRow.{TokenRow}
 use Rattle.lexer.specs.RowSteps.{start}
@@ -37,6 +38,29 @@ tokens_kept s n = reached_kept (λ (v : List TokenRow). (row_at v s).tokens) (to
 
 pub strays_kept : (s n : ℕ) → Keeps (λ _. 1) reading (λ v. nat_le n (row_at v s).strays)
 strays_kept s n = reached_kept (λ (v : List TokenRow). (row_at v s).strays) (strays_grow s) n
+
+-- the row at the state where another row ends
+pub row_next : (v : List TokenRow) (s : ℕ) (xs ys : List ℕ) (r : TokenRow) → s ≤ 12 → r ≡ read_from s xs → v ≡ reading ys → row_at v (number_of r.state) ≡ read_from (number_of r.state) ys
+row_next v s xs ys r h e f = row_at_lem v ys (number_of r.state) (number_bound r.state) f
+
+-- a loop that writes the rows one after another
+pub rows_more : (P : ℕ → TokenRow → Type 0) (r : TokenRow) (rows : List TokenRow) (i : ℕ) → i < length rows
+    → ((k : ℕ) → k < i → P k (slice_index_or rows k (start 0))) → P i r → (k : ℕ) → k < i + 1 → P k (slice_index_or (slice_set rows i r) k (start 0))
+rows_more P r rows i lt below here =
+    below_more (λ k. P k (slice_index_or (slice_set rows i r) k (start 0))) i
+    (λ k h. subst (P k) (sym (get_or-set_other rows i k r (start 0) (apart k h))) (below k h))
+    (subst (P i) (sym (get_or-set_same rows i r (start 0) lt)) here)
+  where
+    apart : (k : ℕ) → k < i → k ≢ i
+    apart k h e = omega arith
+
+-- and leaves those after
+pub rows_after : (r : TokenRow) (rows old : List TokenRow) (i : ℕ) → ((k : ℕ) → i ≤ k → slice_index_or rows k (start 0) ≡ slice_index_or old k (start 0))
+    → (k : ℕ) → i + 1 ≤ k → slice_index_or (slice_set rows i r) k (start 0) ≡ slice_index_or old k (start 0)
+rows_after r rows old i kept k h = get_or-set_other rows i k r (start 0) (apart k h) ∙ kept k (omega arith)
+  where
+    apart : (k : ℕ) → i + 1 ≤ k → k ≢ i
+    apart k h e = omega arith
 
 pub rows_all : (bs : List ℕ) (rows : List TokenRow) → length rows ≡ 13 → ((k : ℕ) → k < 13 → slice_index_or rows k (start 0) ≡ read_from k bs) → rows ≡ reading bs
 rows_all bs rows len each = fill_by_all (λ s. read_from s bs) rows 13 (start 0) len each
