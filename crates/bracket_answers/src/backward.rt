@@ -1,6 +1,7 @@
 // From a close back to its open.
 ghost use Rattle.std.specs.Prelude.{◌≡◌};
 ghost use Rattle.lexer.specs.Numbers.{number_of};
+ghost use Rattle.lexer.specs.declared.states.State.{State};
 ghost use Rattle.bracket_answers.specs.Backward.{kept, OpenMet, OpenHeld, OpenTold};
 
 use crate::spot::{Other, Spot};
@@ -33,15 +34,16 @@ fn keep(met: Met, row: TokenRow, rank: u32, index: u32, byte: u8) -> Met
 }
 
 // The open of that rank among those that wait at the end of the piece, counted from 1.
-pub fn find_open<S: Store>(
+pub fn find_open<S: Store, N: Into<State>>(
     store: &mut S,
     piece: Piece,
-    state: State,
+    state: N,
     rank: u32,
 ) -> Result<Met, Unsound>
-    ensures { OpenMet S.Store.contents store.old store.new piece.address piece.length (number_of state) rank result }
+    ensures { (s : State) × N.converts state s × OpenMet S.Store.contents store.old store.new piece.address piece.length (number_of s) rank result }
 {
-    let mut row = TokenRow::start(state);
+    let begun = state.into();
+    let mut row = begun.start();
     let mut met = Met { index: 0, byte: 0 };
     for i in 0..piece.length {
         let byte = store.read(piece.address + u32::from(i)).ok_or(Unsound)?;

@@ -8,7 +8,7 @@ use asking::parts::measure_part;
 use edits::edges::{AtByte, at_byte};
 use lexer::probes::StraysReached;
 use lexer::states::State;
-use lexer::tokens::{TokenRow, row_of};
+use lexer::tokens::TokenRow;
 use measures::Measure;
 use measures::probes::{OnLeft, OnRight};
 use pieces::head::{TextMeasure, TextRecord};
@@ -55,11 +55,11 @@ pub fn reach_close<S: Store, A: Measure<Item = u8>>(
     ensures { CloseReached S.Store.contents A.Measure.means slots.now text at rest store.old store.new result }
 {
     let mut place = measure_part::<S, TextMeasure<A>>(store, rest)?;
-    if row_of(&place.left.right, State::Open).strays > 0 {
+    if State::Open.row_of(&place.left.right).strays > 0 {
         return Ok(Some(Reach {
             row: rest,
             offset: 0,
-            before: TokenRow::start(State::Open),
+            before: State::Open.start(),
         }));
     }
     let found = find_row_after::<PieceRow, TextMeasure<A>, AtByte, AtStray>(
@@ -72,7 +72,7 @@ pub fn reach_close<S: Store, A: Measure<Item = u8>>(
     Ok(found.map(|row| Reach {
         row,
         offset: place.left.left.bytes,
-        before: row_of(&place.left.right, State::Open),
+        before: State::Open.row_of(&place.left.right),
     }))
 }
 

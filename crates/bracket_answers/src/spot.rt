@@ -3,7 +3,7 @@ ghost use Rattle.bracket_answers.specs.Spots.{SpotFound};
 
 use asking::finding::find_row;
 use edits::edges::{AtByte, at_byte};
-use lexer::tokens::{TokenRow, whole};
+use lexer::tokens::whole;
 use measures::Measure;
 use opens::parts::Start;
 use pieces::head::{TextMeasure, TextRecord};
@@ -50,11 +50,6 @@ pub fn find_spot<S: Store, A: Measure<Item = u8>>(
         state: whole(&before.left.right).state,
     };
     let count = at.saturating_sub(start.offset).saturating_add(1);
-    let stop = scan(
-        store,
-        piece,
-        TokenRow::start(start.state),
-        Goal::Bytes(count),
-    )?;
+    let stop = scan(store, piece, start.state.start(), Goal::Bytes(count))?;
     Ok(Spot { row, start, stop })
 }

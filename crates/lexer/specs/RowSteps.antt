@@ -92,6 +92,11 @@ pub read_folded : (s : ℕ) (bs : List ℕ) → read_from s bs ≡ fold stepped 
 unfolding read_from
 read_folded s bs = sym (read_from_lem s 0 0 0 [] bs ∙ make_eq refl (omega arith) (omega arith) refl)
 
+-- what is no state reads on as the last one does
+pub read_at : (n : ℕ) (bs : List ℕ) → read_from (number_of (state_of n)) bs ≡ read_from n bs
+read_at n bs =
+    read_folded (number_of (state_of n)) bs ∙ ap (λ v. fold stepped v bs) (start_at (state_of n)) ∙ sym (read_folded n bs)
+
 pub read_none : (s : ℕ) → read_from s [] ≡ start s
 read_none s = read_folded s []
 

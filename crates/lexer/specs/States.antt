@@ -1,11 +1,14 @@
 -- There are 13 states: no list leads out of them.
-use Rattle.std.specs.Prelude.{◌≡◌, ℕ, ◌<◌, ◌≤◌, min, Bool, true, false, cond, ◌&&◌, ◌||◌, List, [], ◌∷◌, ◌==◌}
+use Rattle.std.specs.Prelude.{◌≡◌, ℕ, zero, suc, ◌<◌, ◌≤◌, min, Bool, true, false, cond, ◌&&◌, ◌||◌, List, [], ◌∷◌, ◌==◌, slice_index_or, refl}
 use Rattle.std.proofs.Common.{sym, ap, ◌∙◌, ⊎_elim, arith}
 use Rattle.std.proofs.lemmas.Bool.{cases_lt, ne_eqb}
 use Rattle.plain.specs.Lists.{among}
-use Rattle.plain.specs.Tokens.{letter, digit, white, feed, quote, escape, hash, left, right, symbol, stays, begun, step, end_state}
+use Rattle.plain.specs.Tokens.{letter, digit, white, feed, quote, escape, hash, left, right, symbol, stays, begun, step, end_state, name_of, is_key, kind_of}
+use Rattle.plain.specs.declared.answers.Kind.TheVariants.{Key, Word}
 use Rattle.lexer.specs.Numbers.{number_of, state_of, number_state}
-use Rattle.lexer.specs.Reading.{read_from}
+use Rattle.lexer.specs.Reading.{read_from, row_at}
+use Rattle.lexer.specs.declared.states.State.TheVariants.{Start}
+use Rattle.lexer.specs.declared.tokens.TokenRow.{TokenRow}
 
 low : (c : Bool) (m n : ℕ) → m ≤ 12 → n ≤ 12 → cond c m n ≤ 12
 low true m n h k = h
@@ -63,3 +66,30 @@ step_at n b = ap (λ k. step k b) (number_state n) ∙ ⊎_elim low high (cases_
 
     high : 13 ≤ n → step (min n 12) b ≡ step n b
     high h = ap (λ k. step k b) (last n (omega arith)) ∙ sym (step_past n b (omega arith))
+
+kind_past : (n : ℕ) (w : List ℕ) → 12 < n → kind_of n w ≡ name_of n
+kind_past n w h =
+    ap (λ c. elim c [ true ↦ cond (is_key w) Key Word | false ↦ name_of n ]) (ne_eqb n 3 (λ e. omega arith))
+
+-- What ends in it has the kind of what ends in the last one, and its row is that of the last one.
+pub kind_at : (n : ℕ) (w : List ℕ) → kind_of (number_of (state_of n)) w ≡ kind_of n w
+kind_at zero w = refl
+kind_at (suc zero) w = refl
+kind_at (suc (suc zero)) w = refl
+kind_at (suc (suc (suc zero))) w = refl
+kind_at (suc (suc (suc (suc zero)))) w = refl
+kind_at (suc (suc (suc (suc (suc zero))))) w = refl
+kind_at (suc (suc (suc (suc (suc (suc zero)))))) w = refl
+kind_at (suc (suc (suc (suc (suc (suc (suc zero))))))) w = refl
+kind_at (suc (suc (suc (suc (suc (suc (suc (suc zero)))))))) w = refl
+kind_at (suc (suc (suc (suc (suc (suc (suc (suc (suc zero))))))))) w = refl
+kind_at (suc (suc (suc (suc (suc (suc (suc (suc (suc (suc zero)))))))))) w = refl
+kind_at (suc (suc (suc (suc (suc (suc (suc (suc (suc (suc (suc zero))))))))))) w = refl
+kind_at (suc (suc (suc (suc (suc (suc (suc (suc (suc (suc (suc (suc zero)))))))))))) w = refl
+kind_at (suc (suc (suc (suc (suc (suc (suc (suc (suc (suc (suc (suc (suc n))))))))))))) w = sym (kind_past (suc (suc (suc (suc (suc (suc (suc (suc (suc (suc (suc (suc (suc n))))))))))))) w (omega arith))
+
+pub row_of_at : (rows : List TokenRow) (n : ℕ) → row_at rows (number_of (state_of n)) ≡ row_at rows n
+row_of_at rows n = ap (row_at rows) (number_state n) ∙ ap (λ k. slice_index_or rows k (record { state = Start; tokens = 0; strays = 0; unmet = 0 })) (twice n)
+  where
+    twice : (n : ℕ) → min (min n 12) 12 ≡ min n 12
+    twice n = omega arith

@@ -2,6 +2,7 @@
 ghost use Rattle.std.specs.Prelude.{◌≡◌};
 ghost use Rattle.plain.specs.Lists.{same};
 ghost use Rattle.lexer.specs.Numbers.{number_of};
+ghost use Rattle.lexer.specs.declared.states.State.{State};
 ghost use Rattle.plain.specs.Tokens.{name_of, is_key, kind_of};
 
 use crate::states::State;
@@ -45,13 +46,22 @@ pub fn is_key(word: &[u8]) -> bool
         || reads(word, b"end")
 }
 
-// The kind of a token with these bytes that ends in a state.
-pub fn kind_of(state: State, bytes: &[u8]) -> Kind
-    ensures { result ≡ kind_of (number_of state) bytes.now }
-{
-    if state == State::Word && is_key(bytes) {
-        Kind::Key
-    } else {
-        name_of(state)
+impl State {
+    // The kind of a token with these bytes that ends in this state.
+    pub fn kind_of(self, bytes: &[u8]) -> Kind
+        ensures { result ≡ kind_of (number_of self) bytes.now }
+    {
+        if self == State::Word && is_key(bytes) {
+            Kind::Key
+        } else {
+            name_of(self)
+        }
     }
+}
+
+// The same, where the token ends in a state or in any number.
+pub fn kind_of<N: Into<State>>(state: N, bytes: &[u8]) -> Kind
+    ensures { (s : State) × N.converts state s × (result ≡ kind_of (number_of s) bytes.now) }
+{
+    state.into().kind_of(bytes)
 }

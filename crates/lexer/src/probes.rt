@@ -5,7 +5,7 @@ ghost use Rattle.lexer.specs.Numbers.{number_of};
 ghost use Rattle.lexer.specs.RowValues.{tokens_kept, strays_kept};
 
 use crate::states::State;
-use crate::tokens::{Rows, Tokens, row_of, whole};
+use crate::tokens::{Rows, Tokens, whole};
 use measures::Probe;
 
 // At least `count` tokens begun, read from state 0.
@@ -37,6 +37,6 @@ impl Probe<Tokens> for StraysReached {
     ghost keeps = { λ p. strays_kept (number_of p.state) p.count };
 
     fn holds(&self, v: &Rows) -> bool {
-        row_of(v, self.state).strays >= self.count
+        self.state.row_of(v).strays >= self.count
     }
 }

@@ -2,6 +2,7 @@
 ghost use Rattle.std.specs.Prelude.{◌≡◌, true, false};
 ghost use Rattle.plain.specs.Tokens.{begun as begunBy, stays as staysBy, step as stepBy};
 ghost use Rattle.lexer.specs.Numbers.{number_of, state_of};
+ghost use Rattle.lexer.specs.declared.states.State.{State};
 
 use crate::states::State;
 
@@ -66,17 +67,26 @@ fn stays(state: State, byte: u8) -> bool
     }
 }
 
-pub fn step(state: State, byte: u8) -> Next
-    ensures state { number_of result.state ≡ (stepBy (number_of state) byte).0 }
-    ensures begins { result.begins ≡ (stepBy (number_of state) byte).1 }
-{
-    match (state, byte) {
-        (State::Quoted | State::Escaped | State::Comment, b'\n') => Next::begin(State::Line),
-        (State::Quoted, b'"') => Next::go_on(State::String),
-        (State::Quoted, b'\\') => Next::go_on(State::Escaped),
-        (State::Quoted | State::Escaped, _) => Next::go_on(State::Quoted),
-        (State::Comment, _) => Next::go_on(State::Comment),
-        _ if stays(state, byte) => Next::go_on(state),
-        _ => Next::begin(begun(byte)),
+impl State {
+    pub fn step(self, byte: u8) -> Next
+        ensures state { number_of result.state ≡ (stepBy (number_of self) byte).0 }
+        ensures begins { result.begins ≡ (stepBy (number_of self) byte).1 }
+    {
+        match (self, byte) {
+            (State::Quoted | State::Escaped | State::Comment, b'\n') => Next::begin(State::Line),
+            (State::Quoted, b'"') => Next::go_on(State::String),
+            (State::Quoted, b'\\') => Next::go_on(State::Escaped),
+            (State::Quoted | State::Escaped, _) => Next::go_on(State::Quoted),
+            (State::Comment, _) => Next::go_on(State::Comment),
+            _ if stays(self, byte) => Next::go_on(self),
+            _ => Next::begin(begun(byte)),
+        }
     }
+}
+
+// From a state or from any number.
+pub fn step<N: Into<State>>(state: N, byte: u8) -> Next
+    ensures { (s : State) × N.converts state s × (number_of result.state ≡ (stepBy (number_of s) byte).0) × (result.begins ≡ (stepBy (number_of s) byte).1) }
+{
+    state.into().step(byte)
 }

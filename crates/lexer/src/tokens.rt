@@ -3,8 +3,8 @@ ghost use Rattle.std.specs.Prelude.{◌≡◌, ℕ, ◌<◌, ◌≤◌, List, []
 ghost use Rattle.measures.specs.Law.{heaviest};
 ghost use Rattle.lexer.specs.Numbers.{number_of};
 ghost use Rattle.lexer.specs.Reading.{read_from, reading, row_at, Whole};
+ghost use Rattle.lexer.specs.declared.states.State.{State};
 
-use crate::reading::step;
 use crate::states::State;
 use measures::Measure;
 
@@ -22,23 +22,18 @@ pub struct TokenRow {
 pub type Rows = [TokenRow; 13];
 
 impl TokenRow {
-    #[tactic(auto, using(crate::specs::RowSteps::read_none, crate::specs::RowSteps::start_at))]
-    pub fn start(state: State) -> TokenRow
-        ensures { result ≡ read_from (number_of state) [] }
+    // The empty list, read from a state or from any number.
+    pub fn start<N: Into<State>>(state: N) -> TokenRow
+        ensures { (s : State) × N.converts state s × (result ≡ read_from (number_of s) []) }
     {
-        TokenRow {
-            state,
-            tokens: 0,
-            strays: 0,
-            unmet: 0,
-        }
+        state.into().start()
     }
 
     // The list and one byte more.
     pub fn and_byte(&self, byte: u8) -> TokenRow
         ensures { (s : ℕ) (bs : List ℕ) → length bs < heaviest → self.now ≡ read_from s bs → result ≡ read_from s (bs ++ (byte ∷ [])) }
     {
-        let next = step(self.state, byte);
+        let next = self.state.step(byte);
         let (strays, unmet) = match next.state {
             State::Open => (self.strays, self.unmet.saturating_add(1)),
             State::Close if self.unmet == 0 => (self.strays.saturating_add(1), 0),
@@ -70,10 +65,31 @@ impl TokenRow {
     }
 }
 
-pub fn row_of(rows: &Rows, state: State) -> TokenRow
-    ensures { result ≡ row_at rows.now (number_of state) }
+impl State {
+    #[tactic(auto, using(crate::specs::RowSteps::read_none, crate::specs::RowSteps::start_at))]
+    pub fn start(self) -> TokenRow
+        ensures { result ≡ read_from (number_of self) [] }
+    {
+        TokenRow {
+            state: self,
+            tokens: 0,
+            strays: 0,
+            unmet: 0,
+        }
+    }
+
+    pub fn row_of(self, rows: &Rows) -> TokenRow
+        ensures { result ≡ row_at rows.now (number_of self) }
+    {
+        rows[self.number()]
+    }
+}
+
+// The row of a state; for a number that is no state's, of the last one.
+pub fn row_of<N: Into<State>>(rows: &Rows, state: N) -> TokenRow
+    ensures { (s : State) × N.converts state s × (result ≡ row_at rows.now (number_of s)) }
 {
-    rows[state.number()]
+    state.into().row_of(rows)
 }
 
 // What the value of a whole text says of it.
@@ -81,7 +97,7 @@ pub fn whole(rows: &Rows) -> TokenRow
     ensures value { result ≡ row_at rows.now 0 }
     ensures law { (bs : List ℕ) → rows.now ≡ reading bs → Whole bs result }
 {
-    row_of(rows, State::Start)
+    State::Start.row_of(rows)
 }
 
 pub struct Tokens;
@@ -94,7 +110,7 @@ impl Measure for Tokens {
     ghost means = { reading };
 
     fn empty() -> Rows {
-        State::ALL.map(TokenRow::start)
+        State::ALL.map(State::start)
     }
 
     fn one(item: u8) -> Rows {
@@ -106,7 +122,7 @@ impl Measure for Tokens {
     fn join(a: &Rows, b: &Rows) -> Rows {
         let mut rows = *a;
         for row in rows.iter_mut() {
-            *row = row.and_row(&row_of(b, row.state));
+            *row = row.and_row(&row.state.row_of(b));
         }
         rows
     }

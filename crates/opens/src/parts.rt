@@ -3,7 +3,7 @@ ghost use Rattle.std.specs.Prelude.{◌≡◌};
 ghost use Rattle.opens.specs.Parts.{part_from_slot, held_by};
 
 use lexer::states::State;
-use lexer::tokens::{Rows, row_of};
+use lexer::tokens::Rows;
 use measures::pair::Pair;
 use measures::totals::Totals;
 use pieces::rows::PieceRow;
@@ -50,7 +50,7 @@ pub enum Visit {
 pub fn part_from<V: Copy>(value: &Pair<Pair<Totals, Rows>, V>, start: Start) -> Part
     ensures { result ≡ part_from_slot value.now start }
 {
-    let row = row_of(&value.left.right, start.state);
+    let row = start.state.row_of(&value.left.right);
     Part {
         end: Start {
             offset: start.offset.saturating_add(value.left.left.bytes),

@@ -36,7 +36,7 @@ pub fn token_numbered<S: Store, A: Measure<Item = u8>>(
         return Ok(None);
     }
     let until = token_edge::<S, A>(slots, store, text, number.saturating_add(1))?;
-    let kind = kind_between::<S, A>(slots, store, text, from.at, until.at, until.state)?;
+    let kind = kind_between::<S, A, _>(slots, store, text, from.at, until.at, until.state)?;
     Ok(Some(Token {
         start: from.at,
         end: until.at,

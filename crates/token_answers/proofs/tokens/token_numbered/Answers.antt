@@ -15,7 +15,11 @@ pub returns-in_err-until : goal.returns-in_err-until
 returns-in_err-until g c = token_no_end c.args.number c.if-number-eq0.false c.token_edge.ensures c.in_ok-from.was (not-false _ c.if-not-from.false) c.saturating_add.ensures c.token_edge-2.ensures c.in_err-until.was
 
 pub returns-in_err-kind : goal.returns-in_err-kind
-returns-in_err-kind g c = token_no_kind c.args.number c.if-number-eq0.false c.token_edge.ensures c.in_ok-from.was (not-false _ c.if-not-from.false) c.saturating_add.ensures c.token_edge-2.ensures c.in_ok-until.was c.kind_between.ensures c.in_err-kind.was
+returns-in_err-kind g c =
+    let kind = rw (c.kind_between.ensures.1) at c.kind_between.ensures.2 in
+    token_no_kind c.args.number c.if-number-eq0.false c.token_edge.ensures c.in_ok-from.was (not-false _ c.if-not-from.false) c.saturating_add.ensures c.token_edge-2.ensures c.in_ok-until.was kind c.in_err-kind.was
 
 pub returns : goal.returns
-returns g c = token_found c.args.number c.if-number-eq0.false c.token_edge.ensures c.in_ok-from.was (not-false _ c.if-not-from.false) c.saturating_add.ensures c.token_edge-2.ensures c.in_ok-until.was c.kind_between.ensures c.in_ok-kind.was
+returns g c =
+    let kind = rw (c.kind_between.ensures.1) at c.kind_between.ensures.2 in
+    token_found c.args.number c.if-number-eq0.false c.token_edge.ensures c.in_ok-from.was (not-false _ c.if-not-from.false) c.saturating_add.ensures c.token_edge-2.ensures c.in_ok-until.was kind c.in_ok-kind.was
