@@ -165,7 +165,7 @@ module _ {A S : Type 0} {am : List ℕ → A} {contents : S → Contents} {rs : 
         reading = M.reading;
       }
 
-      reach_none : {f : Option PieceRow} → q ≡ Ok f → f ≡ None → CloseReached contents am rs tr p rest s s₁ (Ok None)
+      pub reach_none : {f : Option PieceRow} → q ≡ Ok f → f ≡ None → CloseReached contents am rs tr p rest s s₁ (Ok None)
       reach_none gf nay = record {
         reaches = λ T X xs x ys parts lo hi less inside.
             let B : List ℕ = (contents s).bytes in
@@ -182,7 +182,7 @@ module _ {A S : Type 0} {am : List ℕ → A} {contents : S → Contents} {rs : 
         reading = M.reading;
       }
 
-      reach_later : {f : Option PieceRow} {z : PieceRow} {there : TokenRow} → q ≡ Ok f → f ≡ Some z → there ≡ row_at w.left.right 6
+      pub reach_later : {f : Option PieceRow} {z : PieceRow} {there : TokenRow} → q ≡ Ok f → f ≡ Some z → there ≡ row_at w.left.right 6
           → CloseReached contents am rs tr p rest s s₁ (Ok (Some (record { row = z; offset = w.left.left.bytes; before = there })))
       reach_later {f} {z} {there} gf yea there-is = record {
         reaches = λ T X xs x ys parts lo hi less inside.

@@ -48,7 +48,7 @@ module _ {A : Type 0} {am : List ℕ → A} {rs : List (Record PieceRow (TextVal
   pub halves_broken : {e : Unsound} {r : Result Bool Unsound} → re ≡ Err e → HalvesTold am rs tr p r
   halves_broken bad = record { tells = λ B t is fit g few. ⊎_elim (λ n. absurd (ok_err n.1 bad)) (λ y. absurd (ok_err y.1 bad)) (E.lies B t is fit g few) }
 
-  halves_end : re ≡ Ok None → HalvesTold am rs tr p (Ok false)
+  pub halves_end : re ≡ Ok None → HalvesTold am rs tr p (Ok false)
   halves_end got = record {
     tells = λ B t is fit g few. ⊎_elim (λ n. ap (λ (k : ℕ). Ok (ltb 0 k)) (sym (inside_end p (rows t) n.0))) (λ y. absurd (some_none (ok_same y.1 got))) (E.lies B t is fit g few);
   }

@@ -1,5 +1,5 @@
 -- The trees of a slice and their number. Assumes nothing.
-use Rattle.std.proofs.Common.{◌≡◌, ℕ, ◌≤◌, List, length, Ok, Err, Result, sym, ap, ◌∙◌, subst, arith}
+use Rattle.std.proofs.Common.{◌≡◌, ℕ, ◌<◌, ◌≤◌, List, [], length, Ok, Err, Result, sym, refl, ap, ◌∙◌, subst, arith}
 use Rattle.plain.specs.Machine.{limit, watched}
 use Rattle.slots.specs.Values.{mean}
 use Rattle.slots.specs.declared.records.Unsound.{Unsound}
@@ -26,6 +26,13 @@ module _ {R I V S : Type 0} (w : Rules R I V S) (s : S) (rs : List (Record R V))
   -- slots are sound in one way only
   pub same_trees : (p q : SoundTo w s rs roots free n) → p.trees ≡ q.trees
   same_trees p q = sole_trees rs roots (mean w.means (w.items s)) p.trees q.trees (are_trees p) (are_trees q)
+
+module _ {R I V S : Type 0} {w : Rules R I V S} {s : S} {rs : List (Record R V)} {roots : List Tree} {free : Link} {count : ℕ} {scratch : List ℕ} {e : Unsound} where
+  pub few_slots : length rs < 130 → Inspected w s rs roots free count s scratch (Err e)
+  few_slots h = record { checked = []; ran = refl; says = λ _ c. omega (arith, c.least) }
+
+  pub many_slots : 8316 < length rs → Inspected w s rs roots free count s scratch (Err e)
+  many_slots h = record { checked = []; ran = refl; says = λ _ c. omega (arith, c.most) }
 
 module _ {R I V S : Type 0} {w : Rules R I V S} {s s' : S} {rs : List (Record R V)} {roots : List Tree} {free : Link} {n : ℕ} {scratch scratch' : List ℕ} {q : Result ℕ AuditFault}
     (least : 130 ≤ length rs) (most : length rs ≤ 8316) (n-is : n ≡ limit (watched (length rs))) (A : Audited w s rs roots free n s' scratch scratch' q) where

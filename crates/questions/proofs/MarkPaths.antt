@@ -46,7 +46,7 @@ module _ {ms : List (Record MarkRow MarkTotals)} {tr : Tree} (q : ℕ) {v w : Ma
   pub mark_lost : {e : Unsound} {r : Result (Option Mark) Unsound} → f ≡ Err e → FirstMark ms tr q r
   mark_lost bad = record { tells = λ u is fit few light. ⊎_elim (λ n. absurd (ok_err n.0 bad)) (λ y. absurd (ok_err y.1 bad)) (turns u is fit few light) }
 
-  mark_none : {o : Option MarkRow} → f ≡ Ok o → o ≡ None → FirstMark ms tr q (Ok None)
+  pub mark_none : {o : Option MarkRow} → f ≡ Ok o → o ≡ None → FirstMark ms tr q (Ok None)
   mark_none got nay = record {
     tells = λ u is fit few light. ⊎_elim
         (λ n. ⊎_elim
@@ -56,7 +56,7 @@ module _ {ms : List (Record MarkRow MarkTotals)} {tr : Tree} (q : ℕ) {v w : Ma
         (λ y. absurd (some_none (ok_same y.1 got ∙ nay))) (turns u is fit few light);
   }
 
-  mark_found : {o : Option MarkRow} {x : MarkRow} {n : ℕ} → f ≡ Ok o → o ≡ Some x → n ≡ min (w.gaps + x.gap) 4294967295 → FirstMark ms tr q (Ok (Some (record { offset = n; label = x.label })))
+  pub mark_found : {o : Option MarkRow} {x : MarkRow} {n : ℕ} → f ≡ Ok o → o ≡ Some x → n ≡ min (w.gaps + x.gap) 4294967295 → FirstMark ms tr q (Ok (Some (record { offset = n; label = x.label })))
   mark_found {o} {x} {n} got yea n-is = record {
     tells = λ u is fit few light. ⊎_elim
         (λ z. absurd (some_none (sym (ok_same z.0 got ∙ yea))))

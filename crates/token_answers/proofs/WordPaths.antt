@@ -63,13 +63,13 @@ module _ {A S : Type 0} {am : List ℕ → A} {contents : S → Contents} {rs : 
         let fits = law.small s in
         record { offset = omega arith; within = omega arith; address = omega arith; stored = omega arith }
 
-    byte_past : {s' : S} {r : Result ℕ Unsound} → ReadsAt contents s a None s' → Gives contents am rs tr p s s' r
+    pub byte_past : {s' : S} {r : Result ℕ Unsound} → ReadsAt contents s a None s' → Gives contents am rs tr p s s' r
     byte_past R = record {
       tells = λ T X lt. absurd (omega (arith, (spot X).stored, R.gives));
       reading = record { few = omega (arith, R.counts); same_bytes = R.same_bytes; same_capacity = R.same_capacity };
     }
 
-    byte_read : {s' : S} {b : ℕ} → ReadsAt contents s a (Some b) s' → Gives contents am rs tr p s s' (Ok b)
+    pub byte_read : {s' : S} {b : ℕ} → ReadsAt contents s a (Some b) s' → Gives contents am rs tr p s s' (Ok b)
     byte_read {b = b} R = record {
       tells = λ T X lt.
           let I = inside start F X got yea in
