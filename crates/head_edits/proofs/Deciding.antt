@@ -1,5 +1,5 @@
 -- From the doors to the outcome of an edit: what refuses it is what the machine says no to first.
-use Rattle.std.proofs.Common.{◌≡◌, ℕ, Bool, true, false, cond, ◌⊎◌, List, [], ◌∷◌, ◌++◌, length, Some, None, Ok, Err, Option, Result, sym, refl, ◌∙◌, subst, inl, arith}
+use Rattle.std.proofs.Common.{◌≡◌, ℕ, Bool, true, false, cond, ◌⊎◌, List, [], ◌∷◌, ◌++◌, length, OnErr, Some, None, Ok, Err, Option, Result, sym, refl, ◌∙◌, subst, inl, arith}
 use Rattle.plain.specs.Lists.{first_no}
 use Rattle.plain.specs.Machine.{Machine, Call, asked, accepted}
 use Rattle.plain.specs.declared.faults.TextFault.{TextFault}
@@ -107,6 +107,11 @@ module _ {A S : Type 0} {am : List ℕ → A} {contents : S → Contents} {c : C
     same_bytes = same-b;
     same_capacity = same-c;
   }
+
+-- said of every answer, and so of a refusal
+pub stays_so : {T E P : Type 0} (r : Result T E) → P → OnErr r P
+stays_so (Ok x) p = tt
+stays_so (Err e) p = p
 
 -- refused at the door
 pub edit_shut : {A S : Type 0} {am : List ℕ → A} {contents : S → Contents} {c : Call} {mode mode' : Mode} {s : S} {rs : List (Record PieceRow (TextValue A))} {ms : List (Record MarkRow MarkTotals)} {h : Head} {r : Result (Unit {0}) TextFault} {e : TextFault} → r ≡ Err e

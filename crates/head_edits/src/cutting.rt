@@ -1,4 +1,5 @@
 // A part of the text into the clip.
+ghost use Rattle.std.specs.Prelude.{◌≡◌, OnErr};
 ghost use Rattle.head_edits.specs.Performing.{Counts, Performs};
 ghost use Rattle.pieces.specs.Edited.{Edits};
 ghost use Rattle.pieces.specs.Sound.{whole, held};
@@ -47,7 +48,8 @@ pub fn cut<S: Store, A: Measure<Item = u8>>(
     from: u32,
     to: u32,
 ) -> Result<(), TextFault>
-    ensures { Edits A.Measure.means S.Store.contents (Cut from to) whole held store.old store.new slots.old slots.new marks.old marks.new head.old head.new result }
+    ensures edits { Edits A.Measure.means S.Store.contents (Cut from to) whole held store.old store.new slots.old slots.new marks.old marks.new head.old head.new result }
+    ensures stays { OnErr result (head.new ≡ head.old) }
 {
     let pieces = cut_door::<A>(slots, head.text, head.pieces, from, to)?;
     *head = cut_all::<S, A>(slots, marks, store, *head, pieces, from, to)?;

@@ -1,4 +1,5 @@
 // Bytes out of the text.
+ghost use Rattle.std.specs.Prelude.{◌≡◌, OnErr};
 ghost use Rattle.head_edits.specs.Performing.{Any, Performs};
 ghost use Rattle.pieces.specs.Edited.{Edits};
 ghost use Rattle.pieces.specs.Sound.{whole};
@@ -46,7 +47,8 @@ pub fn delete<S: Store, A: Measure<Item = u8>>(
     from: u32,
     to: u32,
 ) -> Result<(), TextFault>
-    ensures { Edits A.Measure.means S.Store.contents (Delete from to) whole whole store.old store.new slots.old slots.new marks.old marks.new head.old head.new result }
+    ensures edits { Edits A.Measure.means S.Store.contents (Delete from to) whole whole store.old store.new slots.old slots.new marks.old marks.new head.old head.new result }
+    ensures stays { OnErr result (head.new ≡ head.old) }
 {
     delete_door::<A>(slots, head.text, head.pieces, from, to)?;
     *head = delete_all::<S, A>(slots, marks, store, *head, from, to)?;

@@ -1,4 +1,5 @@
 // Bytes into the text.
+ghost use Rattle.std.specs.Prelude.{◌≡◌, OnErr};
 ghost use Rattle.head_edits.specs.Performing.{Inserts};
 ghost use Rattle.pieces.specs.Edited.{Edits};
 ghost use Rattle.pieces.specs.Sound.{whole};
@@ -56,7 +57,8 @@ pub fn insert<S: Store, A: Measure<Item = u8>>(
     at: u32,
     bytes: &[u8],
 ) -> Result<(), TextFault>
-    ensures { Edits A.Measure.means S.Store.contents (Insert at bytes.now) whole whole store.old store.new slots.old slots.new marks.old marks.new head.old head.new result }
+    ensures edits { Edits A.Measure.means S.Store.contents (Insert at bytes.now) whole whole store.old store.new slots.old slots.new marks.old marks.new head.old head.new result }
+    ensures stays { OnErr result (head.new ≡ head.old) }
 {
     let pieces = insert_door::<A>(slots, head.text, head.pieces, at, bytes.len())?;
     let address = store.append(bytes)?;

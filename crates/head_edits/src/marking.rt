@@ -1,5 +1,5 @@
 // One mark more.
-ghost use Rattle.std.specs.Prelude.{ℕ, List};
+ghost use Rattle.std.specs.Prelude.{◌≡◌, ℕ, List, OnErr};
 ghost use Rattle.pieces.specs.Edited.{Edits};
 ghost use Rattle.pieces.specs.Sound.{whole};
 ghost use Rattle.plain.specs.declared.calls.Call.TheVariants.{Mark};
@@ -20,7 +20,8 @@ pub fn mark<A: Measure<Item = u8>>(
     at: u32,
     label: u16,
 ) -> Result<(), TextFault>
-    ensures { (s : Contents) → Edits A.Measure.means (λ (t : Contents). t) (Mark at label) whole whole s s slots.now slots.now marks.old marks.new head.old head.new result }
+    ensures edits { (s : Contents) → Edits A.Measure.means (λ (t : Contents). t) (Mark at label) whole whole s s slots.now slots.now marks.old marks.new head.old head.new result }
+    ensures stays { OnErr result (head.new ≡ head.old) }
 {
     let size = size_of::<A>(slots, head.text)?;
     decide_mark(at, size, head.mark_count, limit(marks.len()))?;

@@ -1,4 +1,5 @@
 // The clip into the text.
+ghost use Rattle.std.specs.Prelude.{◌≡◌, OnErr};
 ghost use Rattle.head_edits.specs.Performing.{Counts, Performs};
 ghost use Rattle.pieces.specs.Edited.{Edits};
 ghost use Rattle.pieces.specs.Sound.{whole, held};
@@ -46,7 +47,8 @@ pub fn paste<S: Store, A: Measure<Item = u8>>(
     store: &mut S,
     at: u32,
 ) -> Result<(), TextFault>
-    ensures { Edits A.Measure.means S.Store.contents (Paste at) held whole store.old store.new slots.old slots.new marks.old marks.new head.old head.new result }
+    ensures edits { Edits A.Measure.means S.Store.contents (Paste at) held whole store.old store.new slots.old slots.new marks.old marks.new head.old head.new result }
+    ensures stays { OnErr result (head.new ≡ head.old) }
 {
     let pieces = paste_door::<A>(slots, head.text, head.pieces, at)?;
     *head = paste_all::<S, A>(slots, marks, store, *head, pieces, at)?;

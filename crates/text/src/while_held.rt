@@ -1,5 +1,5 @@
 // What may be done with a text that is held.
-ghost use Rattle.std.specs.Prelude.{◌≡◌, ℕ, List, Ok};
+ghost use Rattle.std.specs.Prelude.{◌≡◌, ℕ, List, Ok, IfErr};
 ghost use Rattle.plain.specs.declared.calls.Call.TheVariants.{Paste, Discard};
 ghost use Rattle.measures.specs.declared.mark_totals.MarkRow.{MarkRow};
 ghost use Rattle.measures.specs.declared.mark_totals.MarkTotals.{MarkTotals};
@@ -26,7 +26,8 @@ impl Held {
         store: &mut S,
         at: u32,
     ) -> Result<Whole, Refused<Held>>
-        ensures { EditsText A.Measure.means S.Store.contents (Paste at) «in_held» «in_whole» store.old store.new slots.old slots.new marks.old marks.new self.head (paste_head result) (outcome_of result) }
+        ensures edits { EditsText A.Measure.means S.Store.contents (Paste at) «in_held» «in_whole» store.old store.new slots.old slots.new marks.old marks.new self.head (paste_head result) (outcome_of result) }
+        ensures stays { IfErr result (λ refused. refused.text.head ≡ self.head) }
     {
         let lent = usize::from(watched(slots.len()));
         let lent_marks = usize::from(watched(marks.len()));

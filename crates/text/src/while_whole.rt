@@ -1,5 +1,5 @@
 // What may be done with a whole text.
-ghost use Rattle.std.specs.Prelude.{◌≡◌, ℕ, List};
+ghost use Rattle.std.specs.Prelude.{◌≡◌, ℕ, List, IfErr, OnErr};
 ghost use Rattle.plain.specs.declared.calls.Call.TheVariants.{Insert, Delete, Cut};
 ghost use Rattle.plain.specs.declared.calls.Call.TheVariants.{Mark as AddMark};
 ghost use Rattle.stores.specs.Stores.{Contents};
@@ -43,7 +43,8 @@ impl Whole {
         at: u32,
         bytes: &[u8],
     ) -> Result<(), TextFault>
-        ensures { EditsText A.Measure.means S.Store.contents (Insert at bytes.now) «in_whole» «in_whole» store.old store.new slots.old slots.new marks.old marks.new self.old.head self.new.head result }
+        ensures edits { EditsText A.Measure.means S.Store.contents (Insert at bytes.now) «in_whole» «in_whole» store.old store.new slots.old slots.new marks.old marks.new self.old.head self.new.head result }
+        ensures stays { OnErr result (self.new.head ≡ self.old.head) }
     {
         let lent = usize::from(watched(slots.len()));
         let lent_marks = usize::from(watched(marks.len()));
@@ -65,7 +66,8 @@ impl Whole {
         from: u32,
         to: u32,
     ) -> Result<(), TextFault>
-        ensures { EditsText A.Measure.means S.Store.contents (Delete from to) «in_whole» «in_whole» store.old store.new slots.old slots.new marks.old marks.new self.old.head self.new.head result }
+        ensures edits { EditsText A.Measure.means S.Store.contents (Delete from to) «in_whole» «in_whole» store.old store.new slots.old slots.new marks.old marks.new self.old.head self.new.head result }
+        ensures stays { OnErr result (self.new.head ≡ self.old.head) }
     {
         let lent = usize::from(watched(slots.len()));
         let lent_marks = usize::from(watched(marks.len()));
@@ -86,7 +88,8 @@ impl Whole {
         at: u32,
         label: u16,
     ) -> Result<(), TextFault>
-        ensures { (s : Contents) → EditsText A.Measure.means (λ (t : Contents). t) (AddMark at label) «in_whole» «in_whole» s s slots.now slots.now marks.old marks.new self.old.head self.new.head result }
+        ensures edits { (s : Contents) → EditsText A.Measure.means (λ (t : Contents). t) (AddMark at label) «in_whole» «in_whole» s s slots.now slots.now marks.old marks.new self.old.head self.new.head result }
+        ensures stays { OnErr result (self.new.head ≡ self.old.head) }
     {
         let lent_marks = usize::from(watched(marks.len()));
         mark::<A>(
@@ -106,7 +109,8 @@ impl Whole {
         from: u32,
         to: u32,
     ) -> Result<Held, Refused<Whole>>
-        ensures { EditsText A.Measure.means S.Store.contents (Cut from to) «in_whole» «in_held» store.old store.new slots.old slots.new marks.old marks.new self.head (cut_head result) (outcome_of result) }
+        ensures edits { EditsText A.Measure.means S.Store.contents (Cut from to) «in_whole» «in_held» store.old store.new slots.old slots.new marks.old marks.new self.head (cut_head result) (outcome_of result) }
+        ensures stays { IfErr result (λ refused. refused.text.head ≡ self.head) }
     {
         let lent = usize::from(watched(slots.len()));
         let lent_marks = usize::from(watched(marks.len()));
