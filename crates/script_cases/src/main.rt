@@ -1,15 +1,15 @@
 // Scripts at the edges of what can be read: runs each file that is named, and prints what it gives below its name.
 #![tactic(auto)]
 
-use script::early::Early;
-use script::programs::answer_input;
-use std::{env, fs, io};
+use script::answer_script;
+use std::fs::File;
+use std::{env, io};
 
 fn main(rt: HostRuntime) -> io::Result<()> {
     for name in env::args(&rt)?.skip(1) {
         println!(rt; "{name}")?;
-        let input = fs::read(&rt, name.as_str())?;
-        answer_input::<Early, _, _>(rt.alloc(), &mut input.as_slice(), &mut rt.stdout())?;
+        let mut file = File::open(&rt, name.as_str())?;
+        answer_script(rt.alloc(), &mut file, &mut rt.stdout())?;
     }
     Ok(())
 }
