@@ -74,9 +74,11 @@ fn is_new(old: &MarkRecord, new: &MarkRecord) -> bool {
 
 // The leaves and nodes that were not there before.
 pub(crate) fn new_records(before: &[MarkRecord], after: &[MarkRecord]) -> usize {
-    before
-        .iter()
-        .zip(after)
-        .filter(|(old, new)| is_new(old, new))
-        .count()
+    let mut count = 0usize;
+    for (old, new) in before.iter().zip(after) {
+        if is_new(old, new) {
+            count = count.saturating_add(1);
+        }
+    }
+    count
 }
